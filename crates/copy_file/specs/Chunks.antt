@@ -20,8 +20,10 @@ pub record HasCount (facts : SourceFacts) (done count : ℕ) : Type 0 where
 -- a chunk was written, or its trouble is one that may come
 abbrev pub ChunkRuns : Places → Route → SourceFacts → ℕ → Result ℕ Stop → CallLog → Option CallLog → Type 0
 ChunkRuns p part facts done (Ok count) log after =
-    (count ≡ length (next_bytes (current log) p.source facts done)) × AllDone log (writing (current log) p part facts done ∷ []) after
-ChunkRuns p part facts done (Err stop) log after = ChunkStops p part facts done stop.trouble.cause stop.trouble.path log after
+    (count ≡ length (next_bytes (current log) p.source facts done))
+    × AllDone log (writing (current log) p part facts done ∷ []) after
+ChunkRuns p part facts done (Err stop) log after =
+    ChunkStops p part facts done stop.trouble.cause stop.trouble.path log after
 
 -- how many changing calls a chunk made: one, or those until its trouble
 abbrev pub chunk_calls : Result ℕ Stop → ℕ
@@ -34,7 +36,8 @@ IfWritten facts done (Ok count) = HasCount facts done count
 IfWritten facts done (Err stop) = stop.trouble.barrier ≡ false
 
 -- What the writing of a chunk comes to, as in `Ran`.
-pub record Wrote (p : Places) (part : Route) (facts : SourceFacts) (done : ℕ) (result : Result ℕ Stop) (before after : Option CallLog) (faults faults_after : ℕ) : Type 0 where
+pub record Wrote (p : Places) (part : Route) (facts : SourceFacts) (done : ℕ) (result : Result ℕ Stop)
+    (before after : Option CallLog) (faults faults_after : ℕ) : Type 0 where
   pub runs : IfKnown before (λ log. ChunkRuns p part facts done result log after)
   pub written : IfWritten facts done result
   pub counted : IfKnown before (λ log. IfKnown after (HasMore log (chunk_calls result)))

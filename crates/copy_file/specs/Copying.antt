@@ -1,9 +1,12 @@
--- The order in which a file is copied: what a step may report where the copy stands, and where it stands then.
+-- The order in which a file is copied: what a step may report where the copy stands,
+-- and where it stands then.
 use Rattle.std.specs.Prelude.{◌≡◌, ℕ, ◌+◌, ◌-◌, ◌^◌, ◌≤◌, ⊤, Bool, true, false, not, Option, Some, None}
 use Rattle.mc_text.specs.Routes.{Route}
 use Rattle.job_reports.specs.declared.report.Ending.TheVariants.{Finished}
 use Rattle.job_reports.specs.declared.report.Did.{Did}
-use Rattle.job_reports.specs.declared.report.Did.TheVariants.{Began, Chunk, Placed, Removed, Made, Set, Kept, Skipped, Cleaned, Barrier, Asked, Merges, Moved, Troubled, Ended}
+use Rattle.job_reports.specs.declared.report.Did.TheVariants.{Began, Chunk, Placed, Removed, Made}
+use Rattle.job_reports.specs.declared.report.Did.TheVariants.{Set, Kept, Skipped, Cleaned, Barrier}
+use Rattle.job_reports.specs.declared.report.Did.TheVariants.{Asked, Merges, Moved, Troubled, Ended}
 use Rattle.copy_file.specs.declared.stage.SourceFacts.{SourceFacts}
 use Rattle.copy_file.specs.declared.stage.Next.{Next}
 use Rattle.copy_file.specs.declared.stage.Next.TheVariants as next
@@ -21,7 +24,8 @@ pub record Places : Type 0 where
 abbrev pub places : ℕ → Route → Route → Places
 places job source target = record { job = job; source = source; target = target }
 
--- the copy of a file, as it stands: its places, what is to be done next, and whether the target's folder is to be synced
+-- the copy of a file, as it stands: its places, what is to be done next, and whether the
+-- target's folder is to be synced
 pub record Copying : Type 0 where
   pub job : ℕ
   pub source : Route
@@ -31,7 +35,8 @@ pub record Copying : Type 0 where
 
 -- the copy of the file at these places
 abbrev pub copying : Places → Stage → FolderState → Copying
-copying p stage folder = record { job = p.job; source = p.source; target = p.target; stage = stage; folder = folder }
+copying p stage folder =
+    record { job = p.job; source = p.source; target = p.target; stage = stage; folder = folder }
 
 abbrev pub places_of : Copying → Places
 places_of c = places c.job c.source c.target
@@ -40,10 +45,12 @@ places_of c = places c.job c.source c.target
 abbrev pub begun_copy : ℕ → Route → Route → Copying
 begun_copy job source target = copying (places job source target) Begin Synced
 
--- a part that is filled has no more bytes than its source was said to have, a file holds at most 2^63 of them, and a mode
--- has twelve bits; where a part stands whose removal was not tried in vain, the folder is to be synced
+-- a part that is filled has no more bytes than its source was said to have, a file holds at most
+-- 2^63 of them, and a mode has twelve bits; where a part stands whose removal was not tried in vain,
+-- the folder is to be synced
 abbrev pub IsSound : Stage → FolderState → Type 0
-IsSound (Fill part facts done) folder = (done ≤ facts.size) × (facts.size ≤ 2 ^ 63) × (facts.mode ≤ 0o7777) × (folder ≡ Dirty)
+IsSound (Fill part facts done) folder =
+    (done ≤ facts.size) × (facts.size ≤ 2 ^ 63) × (facts.mode ≤ 0o7777) × (folder ≡ Dirty)
 IsSound (Clean part follows) folder = folder ≡ Dirty
 IsSound Begin folder = ⊤
 IsSound (Left part) folder = ⊤
@@ -87,17 +94,21 @@ is_fresh Decided folder = false
 abbrev pub chunk_bytes : ℕ
 chunk_bytes = 65536
 
--- What a step may report that goes on, and where the copy stands then. It makes the part, fills it, places it when it is
--- full, syncs the folder, and only then is finished.
+-- What a step may report that goes on, and where the copy stands then. It makes the part, fills it, places
+-- it when it is full, syncs the folder, and only then is finished.
 abbrev pub Tells : Copying → Did → Copying → Type 0
 Tells c (Began part) new =
-    (c.stage ≡ Begin) × ((facts : SourceFacts) × (new ≡ record c { stage = Fill part facts 0; folder = Dirty }))
+    (c.stage ≡ Begin)
+    × ((facts : SourceFacts) × (new ≡ record c { stage = Fill part facts 0; folder = Dirty }))
 Tells c (Chunk count) new =
     (part : Route) × (facts : SourceFacts) × (done : ℕ) × (c.stage ≡ Fill part facts done)
-    × (1 ≤ count) × (count ≤ chunk_bytes) × (done + count ≤ facts.size) × (new ≡ record c { stage = Fill part facts (done + count) })
+    × (1 ≤ count) × (count ≤ chunk_bytes) × (done + count ≤ facts.size)
+    × (new ≡ record c { stage = Fill part facts (done + count) })
 Tells c (Placed path) new =
-    (part : Route) × (facts : SourceFacts) × (c.stage ≡ Fill part facts facts.size) × (path ≡ c.target) × (new ≡ record c { stage = Decided })
-Tells c (Cleaned part) new = (follows : Next) × (c.stage ≡ Clean part follows) × (new ≡ record c { stage = after_clean follows })
+    (part : Route) × (facts : SourceFacts) × (c.stage ≡ Fill part facts facts.size) × (path ≡ c.target)
+    × (new ≡ record c { stage = Decided })
+Tells c (Cleaned part) new =
+    (follows : Next) × (c.stage ≡ Clean part follows) × (new ≡ record c { stage = after_clean follows })
 Tells c Barrier new = (c.stage ≡ Decided) × (c.folder ≡ Dirty) × (new ≡ record c { folder = Synced })
 Tells c (Troubled trouble) new = (trouble.barrier ≡ at_barrier c.stage) × (new ≡ c)
 Tells c (Ended Finished part) new = (c.stage ≡ Decided) × (c.folder ≡ Synced) × (part ≡ None) × (new ≡ c)
@@ -119,7 +130,8 @@ skipped_stage (Clean part follows) = Clean part next.Decided
 skipped_stage (Left part) = Left part
 skipped_stage Decided = Decided
 
--- a copy that is taken anew begins at the first byte, when its part was removed; what was placed or skipped stays so
+-- a copy that is taken anew begins at the first byte, when its part was removed; what was
+-- placed or skipped stays so
 abbrev pub taken_anew : Stage → Stage
 taken_anew Begin = Begin
 taken_anew (Fill part facts done) = Clean part next.Begin

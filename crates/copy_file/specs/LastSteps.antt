@@ -1,4 +1,5 @@
--- The last steps of a copy that is to end: its part is removed, if it can be, the folder's sync is tried, and it ends.
+-- The last steps of a copy that is to end: its part is removed, if it can be, the folder's
+-- sync is tried, and it ends.
 use Rattle.std.specs.Prelude.{◌≡◌, ℕ, ◌+◌, ◌<◌, ◌≤◌, ⊤, [], ◌∷◌, Option, Some, None, Result, Err}
 use Rattle.mc_text.specs.Routes.{Route}
 use Rattle.tree_trait.specs.declared.calls.TreeError.{TreeError}
@@ -8,7 +9,9 @@ use Rattle.tree_trait.specs.Change.{CallLog}
 use Rattle.tree_trait.specs.Answers.{IfKnown, HasRisen, Performs}
 use Rattle.job_reports.specs.declared.report.Ending.{Ending}
 use Rattle.job_reports.specs.declared.report.Did.{Did}
-use Rattle.job_reports.specs.declared.report.Did.TheVariants.{Began, Chunk, Placed, Removed, Made, Set, Kept, Skipped, Cleaned, Barrier, Asked, Merges, Moved, Troubled, Ended}
+use Rattle.job_reports.specs.declared.report.Did.TheVariants.{Began, Chunk, Placed, Removed, Made}
+use Rattle.job_reports.specs.declared.report.Did.TheVariants.{Set, Kept, Skipped, Cleaned, Barrier}
+use Rattle.job_reports.specs.declared.report.Did.TheVariants.{Asked, Merges, Moved, Troubled, Ended}
 use Rattle.job_reports.specs.Stops.{IsTried, refusal_in, sync_answer, calls_made_for}
 use Rattle.copy_file.specs.declared.stage.Stage.{Stage}
 use Rattle.copy_file.specs.declared.stage.Stage.TheVariants.{Begin, Fill, Clean, Left, Decided}
@@ -51,13 +54,15 @@ removable Begin = None
 removable (Left part) = None
 removable Decided = None
 
--- What a last step may report, and where the copy stands then: the part is removed, if it can be, the folder's sync is
--- tried, and the job ends as it was ordered.
+-- What a last step may report, and where the copy stands then: the part is removed, if it can be, the
+-- folder's sync is tried, and the job ends as it was ordered.
 abbrev pub Winds : Ending → Copying → Did → Copying → Type 0
 Winds ending c (Cleaned part) new = (removable c.stage ≡ Some part) × (new ≡ record c { stage = Decided })
-Winds ending c Barrier new = (c.folder ≡ Dirty) × (new ≡ record c { stage = given_up c.stage; folder = Synced })
+Winds ending c Barrier new =
+    (c.folder ≡ Dirty) × (new ≡ record c { stage = given_up c.stage; folder = Synced })
 Winds ending c (Ended how part) new =
-    (removable c.stage ≡ None) × (c.folder ≡ Synced) × (how ≡ ending) × (part ≡ left_at c.stage) × (new ≡ record c { stage = let_go c.stage })
+    (removable c.stage ≡ None) × (c.folder ≡ Synced) × (how ≡ ending) × (part ≡ left_at c.stage)
+    × (new ≡ record c { stage = let_go c.stage })
 Winds ending c (Began part) new = ⊥
 Winds ending c (Chunk count) new = ⊥
 Winds ending c (Set path) new = ⊥
@@ -75,7 +80,8 @@ Winds ending c (Troubled trouble) new = ⊥
 abbrev pub SyncTried : Copying → Option Route → CallLog → Option CallLog → Type 0
 SyncTried c None log after = IsTried log (SyncFolder (folder_of c.target)) after
 SyncTried c (Some part) log after =
-    (e : TreeError) × (mid : CallLog) × Performs {A = Unit {0}} log (RemoveFile part) (Err e) (Some mid) × IsTried mid (SyncFolder (folder_of c.target)) after
+    (e : TreeError) × (mid : CallLog) × Performs {A = Unit {0}} log (RemoveFile part) (Err e) (Some mid)
+    × IsTried mid (SyncFolder (folder_of c.target)) after
 
 -- what a last step says of the tree's calls
 abbrev pub WindCalls : Copying → Did → CallLog → Option CallLog → Type 0
@@ -97,7 +103,8 @@ WindCalls c (Troubled trouble) log after = ⊥
 
 -- the sync of the folder was answered so; a part that stands was refused its removal before
 abbrev pub SyncAnswers : Copying → Option Route → Option TreeError → CallLog → Option CallLog → Type 0
-SyncAnswers c None left log after = Performs {A = Unit {0}} log (SyncFolder (folder_of c.target)) (sync_answer left) after
+SyncAnswers c None left log after =
+    Performs {A = Unit {0}} log (SyncFolder (folder_of c.target)) (sync_answer left) after
 SyncAnswers c (Some part) left log after =
     (e : TreeError) × (mid : CallLog) × Performs {A = Unit {0}} log (RemoveFile part) (Err e) (Some mid)
     × Performs {A = Unit {0}} mid (SyncFolder (folder_of c.target)) (sync_answer left) after
@@ -123,10 +130,11 @@ abbrev pub GoesDown : Did → Copying → Copying → Type 0
 GoesDown (Ended how part) old new = ⊤
 GoesDown did old new = last_steps new.stage new.folder < last_steps old.stage old.folder
 
--- A last step: what it reports is allowed, the copy is then as it says, and it made the calls that it says, which it
--- counts. It is always one of at most three. It tells the refusal of a sync that was tried in vain, and a fault only where
--- the tree's count has risen.
-pub record WindsOn (ending : Ending) (old new : Copying) (did : Did) (calls : ℕ) (left : Option TreeError) (before after : Option CallLog) (faults faults_after : ℕ) : Type 0 where
+-- A last step: what it reports is allowed, the copy is then as it says, and it made the calls that it says,
+-- which it counts. It is always one of at most three. It tells the refusal of a sync that was tried in
+-- vain, and a fault only where the tree's count has risen.
+pub record WindsOn (ending : Ending) (old new : Copying) (did : Did) (calls : ℕ) (left : Option TreeError)
+    (before after : Option CallLog) (faults faults_after : ℕ) : Type 0 where
   pub tells : Winds ending old did new
   pub called : IfKnown before (λ log. WindCalls old did log after)
   pub synced : IfKnown before (λ log. TellsFolder old did left log after)
@@ -140,19 +148,28 @@ pub record WindsOn (ending : Ending) (old new : Copying) (did : Did) (calls : �
 -- the same of a step that says where it left the copy
 abbrev pub WindMoves : Ending → Copying → AfterLastStep → Option CallLog → Option CallLog → ℕ → ℕ → Type 0
 WindMoves ending old last_step before after faults faults_after =
-    WindsOn ending old (record old { stage = last_step.stage; folder = last_step.folder }) last_step.did last_step.calls last_step.left before after faults faults_after
+    WindsOn ending old (record old { stage = last_step.stage; folder = last_step.folder }) last_step.did
+    last_step.calls last_step.left before after faults faults_after
 
 -- the end of a copy with no part to be removed
 abbrev pub Ends : Ending → Stage → AfterLastStep → Type 0
 Ends ending stage last_step =
-    last_step ≡ record { did = Ended ending (left_at stage); calls = 0; left = None; stage = let_go stage; folder = Synced }
+    last_step ≡ record {
+      did = Ended ending (left_at stage);
+      calls = 0;
+      left = None;
+      stage = let_go stage;
+      folder = Synced;
+    }
 
 -- The sync of the folder is tried where a part stays for which so many calls were made.
-pub record Leaves (p : Places) (part : Route) (calls : ℕ) (last_step : AfterLastStep) (before after : Option CallLog) (faults faults_after : ℕ) : Type 0 where
+pub record Leaves (p : Places) (part : Route) (calls : ℕ) (last_step : AfterLastStep)
+    (before after : Option CallLog) (faults faults_after : ℕ) : Type 0 where
   pub did : last_step.did ≡ Barrier
   pub stage : last_step.stage ≡ Left part
   pub folder : last_step.folder ≡ Synced
-  pub tried : (answer : Result (Unit {0}) TreeError) × (last_step.calls ≡ calls + calls_made_for answer) × (last_step.left ≡ refusal_in answer)
+  pub tried : (answer : Result (Unit {0}) TreeError) × (last_step.calls ≡ calls + calls_made_for answer)
+      × (last_step.left ≡ refusal_in answer)
       × IfKnown before (λ log. Performs {A = Unit {0}} log (SyncFolder (folder_of p.target)) answer after)
   pub unknown : before ≡ None → after ≡ None
   pub later : faults ≤ faults_after
@@ -161,4 +178,5 @@ pub record Leaves (p : Places) (part : Route) (calls : ℕ) (last_step : AfterLa
 -- the part that a stage has is removed, or it stays and the folder's sync is tried
 abbrev pub Removes : Places → Route → AfterLastStep → Option CallLog → Option CallLog → ℕ → ℕ → Type 0
 Removes p part last_step before after faults faults_after =
-    (ending : Ending) (stage : Stage) → removable stage ≡ Some part → WindMoves ending (copying p stage Dirty) last_step before after faults faults_after
+    (ending : Ending) (stage : Stage) → removable stage ≡ Some part
+    → WindMoves ending (copying p stage Dirty) last_step before after faults faults_after

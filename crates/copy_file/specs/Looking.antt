@@ -1,5 +1,6 @@
 -- The looks before a part is made, in their order, and the trouble that a look comes to.
-use Rattle.std.specs.Prelude.{◌≡◌, ◌≢◌, ◌⊎◌, ◌^◌, ◌≤◌, ⊤, Bool, true, false, List, [], ◌∷◌, length, Option, Some, None, Result, Ok, Err}
+use Rattle.std.specs.Prelude.{◌≡◌, ◌≢◌, ◌⊎◌, ◌^◌, ◌≤◌, ⊤, Bool, true, false, List}
+use Rattle.std.specs.Prelude.{[], ◌∷◌, length, Option, Some, None, Result, Ok, Err}
 use Rattle.mc_text.specs.Routes.{Route}
 use Rattle.mc_text.specs.declared.kind.Kind.TheVariants.{File}
 use Rattle.tree_trait.specs.declared.file_system.Node.{Node}
@@ -13,7 +14,8 @@ use Rattle.tree_trait.specs.Change.{found_node}
 use Rattle.tree_trait.specs.Refusals.{refusal_of}
 use Rattle.tree_trait.specs.Answers.{IsMeta}
 use Rattle.job_reports.specs.declared.report.Cause.{Cause}
-use Rattle.job_reports.specs.declared.report.Cause.TheVariants.{Tree, TargetKind, SpecialSource, TooDeep, PartTaken, TooLong, Unnamed, Changed, Memory}
+use Rattle.job_reports.specs.declared.report.Cause.TheVariants.{Tree, TargetKind, SpecialSource, TooDeep}
+use Rattle.job_reports.specs.declared.report.Cause.TheVariants.{PartTaken, TooLong, Unnamed, Changed, Memory}
 use Rattle.job_reports.specs.declared.report.Trouble.{Trouble}
 use Rattle.job_reports.specs.Reading.{IsRefusedWith}
 use Rattle.copy_file.specs.declared.looks.Seen.{Seen}
@@ -37,13 +39,16 @@ pub record IsReady (s : FileSystem) (p : Places) : Type 0 where
   pub file : (file_at s p.source).kind ≡ File
   pub target : refusal_of s (Stat p.target) ≡ Some refused.Missing
 
--- the looks at an item, in their order: the source, the target, which alone may be missing, and the folders that hold them
+-- the looks at an item, in their order: the source, the target, which alone may be missing, and
+-- the folders that hold them
 abbrev pub looks_at : Places → List (Route × Bool)
-looks_at p = (p.source, false) ∷ (p.target, true) ∷ (folder_of p.source, false) ∷ (folder_of p.target, false) ∷ []
+looks_at p =
+    (p.source, false) ∷ (p.target, true) ∷ (folder_of p.source, false) ∷ (folder_of p.target, false) ∷ []
 
 -- a look is no trouble: it isn't refused, or nothing is there, and nothing need be
 abbrev pub Passes : FileSystem → Route × Bool → Type 0
-Passes s look = (refusal_of s (Stat look.0) ≡ None) ⊎ ((look.1 ≡ true) × (refusal_of s (Stat look.0) ≡ Some refused.Missing))
+Passes s look = (refusal_of s (Stat look.0) ≡ None)
+    ⊎ ((look.1 ≡ true) × (refusal_of s (Stat look.0) ≡ Some refused.Missing))
 
 -- no look is a trouble
 abbrev pub AllPass : FileSystem → List (Route × Bool) → Type 0
@@ -69,14 +74,16 @@ LookRefused s p PartTaken path = ⊥
 LookRefused s p TooLong path = ⊥
 LookRefused s p (Changed said got) path = ⊥
 
--- The trouble of the looks: one is refused, or none is, and something stands at the target, or nothing stands there, and
--- the source is no file.
+-- The trouble of the looks: one is refused, or none is, and something stands at the target, or nothing
+-- stands there, and the source is no file.
 abbrev pub LookStops : FileSystem → Places → Cause → Option Route → Type 0
 LookStops s p (Tree e) path = (look : Route) × (path ≡ Some look) × IsFirstRefused s (looks_at p) look e
 LookStops s p (TargetKind kind) path =
-    (path ≡ Some p.target) × AllPass s (looks_at p) × (refusal_of s (Stat p.target) ≡ None) × (kind ≡ (file_at s p.target).kind)
+    (path ≡ Some p.target) × AllPass s (looks_at p) × (refusal_of s (Stat p.target) ≡ None)
+    × (kind ≡ (file_at s p.target).kind)
 LookStops s p SpecialSource path =
-    (path ≡ Some p.source) × AllPass s (looks_at p) × (refusal_of s (Stat p.target) ≡ Some refused.Missing) × ((file_at s p.source).kind ≢ File)
+    (path ≡ Some p.source) × AllPass s (looks_at p) × (refusal_of s (Stat p.target) ≡ Some refused.Missing)
+    × ((file_at s p.source).kind ≢ File)
 LookStops s p Memory path = path ≡ None
 LookStops s p TooDeep path = ⊥
 LookStops s p (Unnamed count) path = ⊥

@@ -7,7 +7,8 @@ use Rattle.tree_trait.specs.declared.calls.TreeError.TheVariants as refused
 use Rattle.tree_trait.specs.Calls.{Stat}
 use Rattle.tree_trait.specs.Refusals.{refusal_of}
 use Rattle.job_reports.specs.declared.report.Cause.{Cause}
-use Rattle.job_reports.specs.declared.report.Cause.TheVariants.{Tree, TargetKind, SpecialSource, TooDeep, PartTaken, TooLong, Unnamed, Changed, Memory}
+use Rattle.job_reports.specs.declared.report.Cause.TheVariants.{Tree, TargetKind, SpecialSource, TooDeep}
+use Rattle.job_reports.specs.declared.report.Cause.TheVariants.{PartTaken, TooLong, Unnamed, Changed, Memory}
 use Rattle.copy_file.specs.Copying.{Places}
 use Rattle.job_reports.specs.Paths.{folder_of}
 use Rattle.job_reports.specs.Reading.{IsRefusedWith, TargetStops}
@@ -20,8 +21,8 @@ part_name job k = 46 ∷ 109 ∷ 99 ∷ 46 ∷ decimal job ++ 46 ∷ decimal k +
 abbrev pub IsShort : Route → Type 0
 IsShort path = length (spelled_route path) ≤ 4096
 
--- The path of a part may be taken: it is neither the target nor the source, no job has a claim on it, and nothing stands
--- there. Where a path would be too long nothing can stand, and no job can have a claim.
+-- The path of a part may be taken: it is neither the target nor the source, no job has a claim on it, and
+-- nothing stands there. Where a path would be too long nothing can stand, and no job can have a claim.
 pub record IsFree (s : FileSystem) (claims_none : Route → Type 0) (p : Places) (path : Route) : Type 0 where
   pub apart : path ≢ p.target
   pub unread : path ≢ p.source
@@ -42,11 +43,12 @@ pub record IsFirstFree (s : FileSystem) (claims_none : Route → Type 0) (p : Pl
   pub free : IsFree s claims_none p (part_path p k)
   pub first : NoneFree s claims_none p k
 
--- The trouble of the names of a part: one that may be taken but for what stands there can't be looked at, the first that
--- may be taken gives a path that is too long, or none may be taken.
+-- The trouble of the names of a part: one that may be taken but for what stands there can't be looked at,
+-- the first that may be taken gives a path that is too long, or none may be taken.
 abbrev pub NameStops : FileSystem → (Route → Type 0) → Places → Cause → Option Route → Type 0
 NameStops s claims_none p (Tree e) path =
-    (k : ℕ) × (k < 1000) × NoneFree s claims_none p k × (path ≡ Some (part_path p k)) × IsRefusedWith s (Stat (part_path p k)) e × (e ≢ refused.Missing)
+    (k : ℕ) × (k < 1000) × NoneFree s claims_none p k × (path ≡ Some (part_path p k))
+    × IsRefusedWith s (Stat (part_path p k)) e × (e ≢ refused.Missing)
 NameStops s claims_none p TooLong path =
     (path ≡ Some p.source) × ((k : ℕ) × IsFirstFree s claims_none p k × (IsShort (part_path p k) → ⊥))
 NameStops s claims_none p PartTaken path = (path ≡ Some p.target) × NoneFree s claims_none p 1000
@@ -79,7 +81,8 @@ IsTaken s claims_none p k free = IsTakenPath s claims_none p (part_path p k) fre
 abbrev pub PathStops : FileSystem → Route → Cause → Option Route → Type 0
 PathStops s look cause path = TargetStops s look cause path
 
--- the trouble of the number k: what stands at its path can't be looked at, or the path may be taken, and is too long
+-- the trouble of the number k: what stands at its path can't be looked at, or the path may
+-- be taken, and is too long
 abbrev pub TryStops : FileSystem → (Route → Type 0) → Places → ℕ → Cause → Option Route → Type 0
 TryStops s claims_none p k TooLong path =
     (path ≡ Some p.source) × IsFree s claims_none p (part_path p k) × (IsShort (part_path p k) → ⊥)

@@ -1,4 +1,5 @@
--- The steps of a part whose bytes and mode the caller knows, in place of those that look at a source and read it: it is made, and filled.
+-- The steps of a part whose bytes and mode the caller knows, in place of those that look at a source and
+-- read it: it is made, and filled.
 use Rattle.std.specs.Prelude.{◌≡◌, ℕ, ◌+◌, ◌≤◌, false, List, [], ◌∷◌, length, Option, None}
 use Rattle.mc_text.specs.Routes.{Route}
 use Rattle.tree_trait.specs.Calls.{Call, WriteAt}
@@ -26,12 +27,15 @@ TellsMade facts c did new = ⊥
 -- by which calls
 abbrev pub MadeCalls : (Route → Type 0) → SourceFacts → Copying → Did → CallLog → Option CallLog → Type 0
 MadeCalls unclaimed facts c (Began part) log after =
-    (k : ℕ) × (part ≡ part_path (places_of c) k) × IsFirstFree (current log) unclaimed (places_of c) k × AllDone log (making_with facts.mode (places_of c) k ∷ []) after
-MadeCalls unclaimed facts c (Troubled trouble) log after = PartStops unclaimed (places_of c) facts.mode trouble.cause trouble.path log after
+    (k : ℕ) × (part ≡ part_path (places_of c) k) × IsFirstFree (current log) unclaimed (places_of c) k
+    × AllDone log (making_with facts.mode (places_of c) k ∷ []) after
+MadeCalls unclaimed facts c (Troubled trouble) log after =
+    PartStops unclaimed (places_of c) facts.mode trouble.cause trouble.path log after
 MadeCalls unclaimed facts c did log after = ⊥
 
 -- The making of a part of a file with these facts.
-pub record MakesPart (unclaimed : Route → Type 0) (facts : SourceFacts) (old new : Copying) (did : Did) (calls : ℕ) (before after : Option CallLog) (faults faults_after : ℕ) : Type 0 where
+pub record MakesPart (unclaimed : Route → Type 0) (facts : SourceFacts) (old new : Copying) (did : Did)
+    (calls : ℕ) (before after : Option CallLog) (faults faults_after : ℕ) : Type 0 where
   pub tells : TellsMade facts old did new
   pub called : IfKnown before (λ log. MadeCalls unclaimed facts old did log after)
   pub counted : IfKnown before (λ log. IfKnown after (HasMore log calls))
@@ -73,11 +77,13 @@ TellsWritten bytes stage did new = ⊥
 -- by which calls
 abbrev pub WrittenCalls : List ℕ → Stage → Did → CallLog → Option CallLog → Type 0
 WrittenCalls bytes stage (Chunk count) log after = AllDone log (writing_next bytes stage) after
-WrittenCalls bytes stage (Troubled trouble) log after = RunStops (writing_next bytes stage) trouble.cause trouble.path log after
+WrittenCalls bytes stage (Troubled trouble) log after =
+    RunStops (writing_next bytes stage) trouble.cause trouble.path log after
 WrittenCalls bytes stage did log after = ⊥
 
 -- The writing of these bytes, where the copy stands so.
-pub record WritesNext (bytes : List ℕ) (stage new : Stage) (did : Did) (calls : ℕ) (before after : Option CallLog) (faults faults_after : ℕ) : Type 0 where
+pub record WritesNext (bytes : List ℕ) (stage new : Stage) (did : Did) (calls : ℕ)
+    (before after : Option CallLog) (faults faults_after : ℕ) : Type 0 where
   pub tells : TellsWritten bytes stage did new
   pub called : IfKnown before (λ log. WrittenCalls bytes stage did log after)
   pub counted : IfKnown before (λ log. IfKnown after (HasMore log calls))

@@ -1,7 +1,8 @@
 //! The copy of one file, a piece of work at each step.
 ghost use Rattle.std.specs.Prelude.{◌≡◌, None, Some, length, true, option_map};
 ghost use Rattle.mc_text.specs.Routes.{parent_of};
-ghost use Rattle.copy_file.specs.Copying.{IsSound, at_barrier, begun_copy, is_dirty, is_fresh, part_at, skipped_stage as skipped_to, taken_anew as stage_anew};
+ghost use Rattle.copy_file.specs.Copying.{IsSound, at_barrier, begun_copy, is_dirty, is_fresh, part_at};
+ghost use Rattle.copy_file.specs.Copying.{skipped_stage as skipped_to, taken_anew as stage_anew};
 ghost use Rattle.job_reports.specs.Paths.{folder_of};
 ghost use Rattle.copy_file.specs.CopySteps.{Skips, StepsOn};
 ghost use Rattle.copy_file.specs.LastSteps.{WindsOn, left_at};
@@ -104,7 +105,8 @@ impl FileCopy {
         self.item.folder()
     }
 
-    /// Whether the folder has a change of names that no sync has brought onto the disk, as far as this copy goes.
+    /// Whether the folder has a change of names that no sync has brought onto the disk,
+    /// as far as this copy goes.
     pub fn is_dirty(&self) -> bool
         ensures { result ≡ is_dirty self.now.folder }
     {
@@ -139,7 +141,8 @@ impl FileCopy {
         parts: &P,
     ) -> StepResult
         requires { left_at self.old.stage ≡ None }
-        ensures steps { StepsOn (λ path. P.is_free parts.now path ≡ true) self.old self.new result.did result.calls
+        ensures steps { StepsOn (λ path. P.is_free parts.now path ≡ true) self.old self.new
+            result.did result.calls
             (T.contents tree.old) (T.contents tree.new) (T.fault_count tree.old) (T.fault_count tree.new) }
         ensures ready { left_at self.new.stage ≡ None }
         ensures sound { IsSound self.new.stage self.new.folder }
@@ -154,7 +157,8 @@ impl FileCopy {
         }
     }
 
-    /// Makes the part of a file whose size and mode the caller knows, in place of a step that looks at a source.
+    /// Makes the part of a file whose size and mode the caller knows, in place of a
+    /// step that looks at a source.
     pub fn begin_with<T: Tree, P: PartTest>(
         &mut self,
         alloc: Global,
@@ -164,7 +168,8 @@ impl FileCopy {
     ) -> StepResult
         requires stage { self.old.stage ≡ Stage.Begin }
         requires range { HasRange facts }
-        ensures { MakesPart (λ path. P.is_free parts.now path ≡ true) facts self.old self.new result.did result.calls
+        ensures { MakesPart (λ path. P.is_free parts.now path ≡ true) facts self.old self.new
+            result.did result.calls
             (T.contents tree.old) (T.contents tree.new) (T.fault_count tree.old) (T.fault_count tree.new) }
     {
         let moved = begin_known(alloc, tree, parts, &self.item, facts, self.folder);

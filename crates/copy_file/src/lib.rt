@@ -1,6 +1,6 @@
-//! The copy of one file: a part is made beside the target, filled, synced and renamed, and the folder is synced. A copy that
-//! dies leaves the target as it was or whole, and a part file with a name of its own. What stands at the target is replaced only
-//! under an answer.
+//! The copy of one file: a part is made beside the target, filled, synced and renamed, and the folder is
+//! synced. A copy that dies leaves the target as it was or whole, and a part file with a name of its own.
+//! What stands at the target is replaced only under an answer.
 #![tactic(auto)]
 
 mod chunk;

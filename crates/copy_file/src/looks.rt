@@ -4,7 +4,8 @@ ghost use Rattle.tree_trait.specs.Calls.{Stat};
 ghost use Rattle.tree_trait.specs.Change.{current};
 ghost use Rattle.tree_trait.specs.Refusals.{refusal_of};
 ghost use Rattle.tree_trait.specs.Answers.{IfKnown, IsInRange, IsMeta};
-ghost use Rattle.copy_file.specs.Looking.{AreFactsOf, AreSeen, FactsSeen, HasRange, IsReady, IsThere, Judges, LookRefused, LookStops};
+ghost use Rattle.copy_file.specs.Looking.{AreFactsOf, AreSeen, FactsSeen, HasRange};
+ghost use Rattle.copy_file.specs.Looking.{IsReady, IsThere, Judges, LookRefused, LookStops};
 ghost use Rattle.job_reports.specs.Reading.{Peeks, StatStops, TargetStops};
 ghost use Rattle.job_reports.specs.Stops.{IsTroubleWithPath};
 
@@ -22,8 +23,8 @@ pub(crate) struct Seen {
     pub(crate) target: Option<Meta>,
 }
 
-/// A file is at the source, and nothing at the target. What a refused look says goes before what stands at the target, and
-/// that before what the source is.
+/// A file is at the source, and nothing at the target. What a refused look says goes before what stands at
+/// the target, and that before what the source is.
 pub(crate) fn looks<T: Tree>(
     alloc: Global,
     tree: &mut T,

@@ -5,7 +5,8 @@ ghost use Rattle.tree_trait.specs.Change.{current};
 ghost use Rattle.tree_trait.specs.Answers.{IfKnown};
 ghost use Rattle.job_reports.specs.Reading.{Peeks};
 ghost use Rattle.job_reports.specs.Stops.{IsTroubleWithPath};
-ghost use Rattle.copy_file.specs.PartNames.{IsChosen, IsPathOf, IsShort, IsTaken, IsTakenPath, NameStops, PathStops, TryStops, part_name as name_of};
+ghost use Rattle.copy_file.specs.PartNames.{IsChosen, IsPathOf, IsShort, IsTaken, IsTakenPath};
+ghost use Rattle.copy_file.specs.PartNames.{NameStops, PathStops, TryStops, part_name as name_of};
 
 use crate::item::CopyPaths;
 use job_reports::{Cause, PartTest, Trouble, missing_or_trouble, out_of_memory, trouble_with_path};
@@ -25,7 +26,8 @@ pub fn choose_part<T: Tree, P: PartTest>(
 ) -> Result<Path, Trouble>
     ensures known { IfKnown (T.contents tree.old) (λ log. MatchResult result
         (IsChosen (current log) (λ path. P.is_free parts.now path ≡ true) item.now)
-        (λ trouble. NameStops (current log) (λ path. P.is_free parts.now path ≡ true) item.now trouble.cause trouble.path)) }
+        (λ trouble. NameStops (current log) (λ path. P.is_free parts.now path ≡ true) item.now trouble.cause
+        trouble.path)) }
     ensures peeks { Peeks result (T.contents tree.old) (T.contents tree.new)
         (T.fault_count tree.old) (T.fault_count tree.new) }
 {
@@ -49,7 +51,8 @@ fn try_name<T: Tree, P: PartTest>(
 ) -> Result<Option<Path>, Trouble>
     ensures known { IfKnown (T.contents tree.old) (λ log. MatchResult result
         (IsTaken (current log) (λ path. P.is_free parts.now path ≡ true) item.now k)
-        (λ trouble. TryStops (current log) (λ path. P.is_free parts.now path ≡ true) item.now k trouble.cause trouble.path)) }
+        (λ trouble. TryStops (current log) (λ path. P.is_free parts.now path ≡ true) item.now k trouble.cause
+        trouble.path)) }
     ensures peeks { Peeks result (T.contents tree.old) (T.contents tree.new)
         (T.fault_count tree.old) (T.fault_count tree.new) }
 {

@@ -40,7 +40,8 @@ pub(crate) fn write_part<T: Tree>(
     bytes: &[u8],
 ) -> Result<u64, Stop>
     requires { offset + length bytes.now ≤ 2 ^ 63 }
-    ensures { Ran (WriteAt part.now offset bytes.now ∷ []) false result (T.contents tree.old) (T.contents tree.new)
+    ensures { Ran (WriteAt part.now offset bytes.now ∷ []) false result (T.contents tree.old)
+        (T.contents tree.new)
         (T.fault_count tree.old) (T.fault_count tree.new) }
 {
     let Ok(named) = part.copy(alloc) else {
@@ -49,7 +50,8 @@ pub(crate) fn write_part<T: Tree>(
     made_or_stopped(tree.write_at(alloc, part, offset, bytes), named, false)
 }
 
-/// Brings a full part to the target. It is synced before it is renamed, so that no crash leaves half a target.
+/// Brings a full part to the target. It is synced before it is renamed, so that no
+/// crash leaves half a target.
 #[tactic(auto, unfolding(job_reports::specs::Stops::RanFolded))]
 pub(crate) fn place<T: Tree>(
     alloc: Global,
@@ -80,14 +82,15 @@ fn give_mode<T: Tree>(alloc: Global, tree: &mut T, part: &Path, mode: u16) -> Re
     set_mode(alloc, tree, part, mode)
 }
 
-#[tactic(auto, using(job_reports::proofs::Runs::comes_then, job_reports::proofs::Runs::comes_stopped, job_reports::proofs::Runs::comes_few))]
+#[tactic(auto, using(job_reports::proofs::Runs::two_calls))]
 fn sync_and_rename<T: Tree>(
     alloc: Global,
     tree: &mut T,
     part: &Path,
     target: &Path,
 ) -> Result<u64, Stop>
-    ensures { RanFolded (SyncFile part.now ∷ Rename part.now target.now ∷ []) false result (T.contents tree.old) (T.contents tree.new)
+    ensures { RanFolded (SyncFile part.now ∷ Rename part.now target.now ∷ []) false result
+        (T.contents tree.old) (T.contents tree.new)
         (T.fault_count tree.old) (T.fault_count tree.new) }
 {
     match sync_part(alloc, tree, part) {
@@ -114,7 +117,8 @@ fn rename_part<T: Tree>(
     part: &Path,
     target: &Path,
 ) -> Result<u64, Stop>
-    ensures { RanFolded (Rename part.now target.now ∷ []) false result (T.contents tree.old) (T.contents tree.new)
+    ensures { RanFolded (Rename part.now target.now ∷ []) false result (T.contents tree.old)
+        (T.contents tree.new)
         (T.fault_count tree.old) (T.fault_count tree.new) }
 {
     rename_thing(alloc, tree, part, target)

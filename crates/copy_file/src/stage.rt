@@ -22,8 +22,8 @@ pub enum Next {
 pub enum Stage {
     /// No part stands. Source and target are to be looked at, and the part is to be made.
     Begin,
-    /// The part holds the first bytes of the source. When it has all, it is synced before it is renamed, so that no crash
-    /// leaves half a target.
+    /// The part holds the first bytes of the source. When it has all, it is synced before it is renamed, so
+    /// that no crash leaves half a target.
     Fill {
         part: Path,
         facts: SourceFacts,

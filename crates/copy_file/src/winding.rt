@@ -1,4 +1,5 @@
-//! The last steps of a copy that is aborted or killed: one try to remove its part, one try to sync the folder.
+//! The last steps of a copy that is aborted or killed: one try to remove its part,
+//! one try to sync the folder.
 ghost use Rattle.std.specs.Prelude.{◌≡◌, ◌≤◌, None};
 ghost use Rattle.copy_file.specs.Copying.{IsSound, copying};
 ghost use Rattle.copy_file.specs.LastSteps.{Ends, Leaves, Removes, WindMoves, removable};
@@ -11,8 +12,8 @@ use mc_text::Path;
 use std::alloc::Global;
 use tree_trait::{Tree, TreeError};
 
-/// What a last step did, how many changing calls it made, the refusal of a sync that was tried in vain, and where the
-/// copy stands then.
+/// What a last step did, how many changing calls it made, the refusal of a sync that was tried in vain, and
+/// where the copy stands then.
 #[derive(Debug, Drop)]
 pub(crate) struct AfterLastStep {
     pub(crate) did: Did,
@@ -32,7 +33,8 @@ pub(crate) fn wind<T: Tree>(
     ending: Ending,
 ) -> AfterLastStep
     requires { IsSound stage folder }
-    ensures { WindMoves ending (copying item.now stage folder) result (T.contents tree.old) (T.contents tree.new)
+    ensures { WindMoves ending (copying item.now stage folder) result (T.contents tree.old)
+        (T.contents tree.new)
         (T.fault_count tree.old) (T.fault_count tree.new) }
 {
     match stage {
@@ -105,7 +107,8 @@ fn sync_or_end<T: Tree>(
     ending: Ending,
 ) -> AfterLastStep
     requires { removable stage ≡ None }
-    ensures { WindMoves ending (copying item.now stage folder) result (T.contents tree.old) (T.contents tree.new)
+    ensures { WindMoves ending (copying item.now stage folder) result (T.contents tree.old)
+        (T.contents tree.new)
         (T.fault_count tree.old) (T.fault_count tree.new) }
 {
     match folder {
@@ -116,7 +119,8 @@ fn sync_or_end<T: Tree>(
 
 fn try_sync<T: Tree>(alloc: Global, tree: &mut T, item: &CopyPaths, stage: Stage) -> AfterLastStep
     requires { removable stage ≡ None }
-    ensures { (ending : Ending) → WindMoves ending (copying item.now stage FolderState.Dirty) result (T.contents tree.old) (T.contents tree.new)
+    ensures { (ending : Ending) → WindMoves ending (copying item.now stage FolderState.Dirty) result
+        (T.contents tree.old) (T.contents tree.new)
         (T.fault_count tree.old) (T.fault_count tree.new) }
 {
     let synced = tree.sync_folder(alloc, item.folder());
@@ -141,7 +145,13 @@ fn end(stage: Stage, ending: Ending) -> AfterLastStep
 }
 
 fn ended(ending: Ending, part: Option<Path>, stage: Stage) -> AfterLastStep
-    ensures { result ≡ record { did = Did.Ended ending part; calls = 0; left = None; stage = stage; folder = FolderState.Synced } }
+    ensures { result ≡ record {
+      did = Did.Ended ending part;
+      calls = 0;
+      left = None;
+      stage = stage;
+      folder = FolderState.Synced;
+    } }
 {
     AfterLastStep {
         did: Did::Ended { ending, part },

@@ -38,7 +38,8 @@ pub(crate) fn work<T: Tree, P: PartTest>(
 ) -> AfterStep
     requires ready { left_at stage ≡ None }
     requires sound { IsSound stage folder }
-    ensures { MovesOn (λ path. P.is_free parts.now path ≡ true) (copying item.now stage folder) result (T.contents tree.old) (T.contents tree.new)
+    ensures { MovesOn (λ path. P.is_free parts.now path ≡ true) (copying item.now stage folder) result
+        (T.contents tree.old) (T.contents tree.new)
         (T.fault_count tree.old) (T.fault_count tree.new) }
 {
     match stage {
@@ -83,7 +84,8 @@ fn begin<T: Tree, P: PartTest>(
     item: &CopyPaths,
     folder: FolderState,
 ) -> AfterStep
-    ensures { MovesOn (λ path. P.is_free parts.now path ≡ true) (copying item.now Stage.Begin folder) result (T.contents tree.old) (T.contents tree.new)
+    ensures { MovesOn (λ path. P.is_free parts.now path ≡ true) (copying item.now Stage.Begin folder) result
+        (T.contents tree.old) (T.contents tree.new)
         (T.fault_count tree.old) (T.fault_count tree.new) }
 {
     match begin_part(alloc, tree, parts, item) {
@@ -107,7 +109,8 @@ fn begin_part<T: Tree, P: PartTest>(
     parts: &P,
     item: &CopyPaths,
 ) -> Result<Made, Stop>
-    ensures { Begins (λ path. P.is_free parts.now path ≡ true) item.now result (T.contents tree.old) (T.contents tree.new)
+    ensures { Begins (λ path. P.is_free parts.now path ≡ true) item.now result (T.contents tree.old)
+        (T.contents tree.new)
         (T.fault_count tree.old) (T.fault_count tree.new) }
 {
     let facts = match looks(alloc, tree, item) {
@@ -126,7 +129,8 @@ pub(crate) fn make_named<T: Tree, P: PartTest>(
     facts: SourceFacts,
 ) -> Result<Made, Stop>
     requires { HasRange facts }
-    ensures { Names (λ path. P.is_free parts.now path ≡ true) facts item.now result (T.contents tree.old) (T.contents tree.new)
+    ensures { Names (λ path. P.is_free parts.now path ≡ true) facts item.now result (T.contents tree.old)
+        (T.contents tree.new)
         (T.fault_count tree.old) (T.fault_count tree.new) }
 {
     let part = match choose_part(alloc, tree, parts, item) {
@@ -153,7 +157,8 @@ pub(crate) fn begin_known<T: Tree, P: PartTest>(
 ) -> AfterStep
     requires { HasRange facts }
     ensures { MakesPart (λ path. P.is_free parts.now path ≡ true) facts (copying item.now Stage.Begin folder)
-        (copying item.now result.stage result.folder) result.did result.calls (T.contents tree.old) (T.contents tree.new)
+        (copying item.now result.stage result.folder) result.did result.calls (T.contents tree.old)
+        (T.contents tree.new)
         (T.fault_count tree.old) (T.fault_count tree.new) }
 {
     match make_named(alloc, tree, parts, item, facts) {
@@ -181,7 +186,8 @@ pub(crate) fn write_next<T: Tree>(
 ) -> AfterStep
     requires fits { IsNext stage (length bytes.now) }
     requires sound { IsSound stage folder }
-    ensures writes { WritesNext bytes.now stage result.stage result.did result.calls (T.contents tree.old) (T.contents tree.new)
+    ensures writes { WritesNext bytes.now stage result.stage result.did result.calls (T.contents tree.old)
+        (T.contents tree.new)
         (T.fault_count tree.old) (T.fault_count tree.new) }
     ensures folder { result.folder ≡ folder }
     ensures sound { IsSound result.stage folder }
@@ -208,7 +214,8 @@ fn write_behind<T: Tree>(
 ) -> AfterStep
     requires fits { HasCount facts done (length bytes.now) }
     requires sound { IsSound (Stage.Fill part facts done) folder }
-    ensures writes { WritesNext bytes.now (Stage.Fill part facts done) result.stage result.did result.calls (T.contents tree.old) (T.contents tree.new)
+    ensures writes { WritesNext bytes.now (Stage.Fill part facts done) result.stage result.did result.calls
+        (T.contents tree.old) (T.contents tree.new)
         (T.fault_count tree.old) (T.fault_count tree.new) }
     ensures folder { result.folder ≡ folder }
     ensures sound { IsSound result.stage folder }
@@ -238,7 +245,8 @@ fn fill<T: Tree>(
 ) -> AfterStep
     requires sound { IsSound (Stage.Fill part facts done) FolderState.Dirty }
     requires unfilled { done < facts.size }
-    ensures { MovesOn (λ _. ⊤) (copying item.now (Stage.Fill part facts done) FolderState.Dirty) result (T.contents tree.old) (T.contents tree.new)
+    ensures { MovesOn (λ _. ⊤) (copying item.now (Stage.Fill part facts done) FolderState.Dirty) result
+        (T.contents tree.old) (T.contents tree.new)
         (T.fault_count tree.old) (T.fault_count tree.new) }
 {
     match write_chunk(alloc, tree, item, &part, facts, done) {
@@ -266,7 +274,8 @@ fn finish_part<T: Tree>(
 ) -> AfterStep
     requires sound { IsSound (Stage.Fill part facts done) FolderState.Dirty }
     requires filled { facts.size ≤ done }
-    ensures { MovesOn (λ _. ⊤) (copying item.now (Stage.Fill part facts done) FolderState.Dirty) result (T.contents tree.old) (T.contents tree.new)
+    ensures { MovesOn (λ _. ⊤) (copying item.now (Stage.Fill part facts done) FolderState.Dirty) result
+        (T.contents tree.old) (T.contents tree.new)
         (T.fault_count tree.old) (T.fault_count tree.new) }
 {
     let Ok(placed) = item.target().copy(alloc) else {
@@ -294,7 +303,8 @@ fn clean<T: Tree>(
     part: Path,
     next: Next,
 ) -> AfterStep
-    ensures { MovesOn (λ _. ⊤) (copying item.now (Stage.Clean part next) FolderState.Dirty) result (T.contents tree.old) (T.contents tree.new)
+    ensures { MovesOn (λ _. ⊤) (copying item.now (Stage.Clean part next) FolderState.Dirty) result
+        (T.contents tree.old) (T.contents tree.new)
         (T.fault_count tree.old) (T.fault_count tree.new) }
 {
     match remove_part(alloc, tree, &part) {
@@ -324,7 +334,8 @@ fn conclude<T: Tree>(
     item: &CopyPaths,
     folder: FolderState,
 ) -> AfterStep
-    ensures { MovesOn (λ _. ⊤) (copying item.now Stage.Decided folder) result (T.contents tree.old) (T.contents tree.new)
+    ensures { MovesOn (λ _. ⊤) (copying item.now Stage.Decided folder) result (T.contents tree.old)
+        (T.contents tree.new)
         (T.fault_count tree.old) (T.fault_count tree.new) }
 {
     match folder {
@@ -342,7 +353,8 @@ fn conclude<T: Tree>(
 }
 
 fn sync_names<T: Tree>(alloc: Global, tree: &mut T, item: &CopyPaths) -> AfterStep
-    ensures { MovesOn (λ _. ⊤) (copying item.now Stage.Decided FolderState.Dirty) result (T.contents tree.old) (T.contents tree.new)
+    ensures { MovesOn (λ _. ⊤) (copying item.now Stage.Decided FolderState.Dirty) result (T.contents tree.old)
+        (T.contents tree.new)
         (T.fault_count tree.old) (T.fault_count tree.new) }
 {
     match job_reports::sync_names(alloc, tree, item.folder()) {

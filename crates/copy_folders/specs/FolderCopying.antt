@@ -1,5 +1,7 @@
--- The order in which a folder is copied: what a step may report where the copy stands, and where it stands then.
-use Rattle.std.specs.Prelude.{◌≡◌, ◌==◌, ℕ, ◌≤◌, ⊤, Bool, true, false, if◌then◌else◌, bit_or, Option, Some, None}
+-- The order in which a folder is copied: what a step may report where the copy stands,
+-- and where it stands then.
+use Rattle.std.specs.Prelude.{◌≡◌, ◌==◌, ℕ, ◌≤◌, ⊤, Bool, true, false}
+use Rattle.std.specs.Prelude.{if◌then◌else◌, bit_or, Option, Some, None}
 use Rattle.mc_text.specs.Routes.{Route}
 use Rattle.copy_folders.specs.declared.stage.Stage.{Stage}
 use Rattle.copy_folders.specs.declared.stage.Stage.TheVariants.{Make, Fill, Close, Done}
@@ -8,7 +10,8 @@ use Rattle.copy_folders.specs.declared.stage.NamesState.TheVariants.{Synced, Dir
 use Rattle.copy_folders.specs.declared.stage.FolderDid.{FolderDid}
 use Rattle.copy_folders.specs.declared.stage.FolderDid.TheVariants.{Made, Set, Barrier, Closed, Troubled}
 
--- the copy of a folder, as it stands: its places, what is to be done next, and whether the target is to be synced
+-- the copy of a folder, as it stands: its places, what is to be done next, and whether
+-- the target is to be synced
 pub record FolderCopying : Type 0 where
   pub source : Route
   pub target : Route
@@ -62,19 +65,22 @@ closing (Make mode) = Make mode
 closing (Close owed) = Close owed
 closing Done = Done
 
--- a folder that can't be made is skipped with all below it; one that can't be given its mode keeps that of its making
+-- a folder that can't be made is skipped with all below it; one that can't be given its mode
+-- keeps that of its making
 abbrev pub skipped_stage : Stage → Stage
 skipped_stage (Make mode) = Done
 skipped_stage (Close owed) = Close None
 skipped_stage (Fill owed) = Fill owed
 skipped_stage Done = Done
 
--- What a step may report, and where the copy stands then. A missing folder is made, its children are copied, it is given the
--- mode that is owed, what is dirty is synced, and only then is it closed.
+-- What a step may report, and where the copy stands then. A missing folder is made, its children are
+-- copied, it is given the mode that is owed, what is dirty is synced, and only then is it closed.
 abbrev pub Tells : FolderCopying → FolderDid → FolderCopying → Type 0
-Tells c (Made path) new = (mode : ℕ) × (c.stage ≡ Make mode) × (path ≡ c.target) × (new ≡ record c { stage = Fill (owed_mode mode) })
+Tells c (Made path) new = (mode : ℕ) × (c.stage ≡ Make mode) × (path ≡ c.target)
+    × (new ≡ record c { stage = Fill (owed_mode mode) })
 Tells c (Set path) new =
-    (mode : ℕ) × (c.stage ≡ Close (Some mode)) × (path ≡ c.target) × (new ≡ record c { stage = Close None; names = Dirty })
+    (mode : ℕ) × (c.stage ≡ Close (Some mode)) × (path ≡ c.target)
+    × (new ≡ record c { stage = Close None; names = Dirty })
 Tells c Barrier new = (c.stage ≡ Close None) × (c.names ≡ Dirty) × (new ≡ record c { names = Synced })
 Tells c Closed new = (c.stage ≡ Close None) × (c.names ≡ Synced) × (new ≡ record c { stage = Done })
 Tells c (Troubled trouble) new = (trouble.barrier ≡ at_barrier c.stage) × (new ≡ c)

@@ -1,6 +1,7 @@
 //! The copy of a folder: its beginning, and its end when its children are decided.
 ghost use Rattle.std.specs.Prelude.{◌≡◌, ◌≤◌, true, None};
-ghost use Rattle.copy_folders.specs.FolderCopying.{IsSound, at_barrier, closing, copying, is_dirty, is_ready, skipped_stage as skipped_to};
+ghost use Rattle.copy_folders.specs.FolderCopying.{IsSound, at_barrier, closing, copying, is_dirty};
+ghost use Rattle.copy_folders.specs.FolderCopying.{is_ready, skipped_stage as skipped_to};
 ghost use Rattle.copy_folders.specs.FolderSteps.{Skips, StepsOn, SyncTried, at_sync};
 
 use crate::stage::{FolderStep, NamesState, Stage};
@@ -11,7 +12,8 @@ use std::alloc::Global;
 use std::marker::Model;
 use tree_trait::Tree;
 
-/// The copy of the folder at `source` to `target`. Its children are copied by others, between its beginning and its end.
+/// The copy of the folder at `source` to `target`. Its children are copied by others, between
+/// its beginning and its end.
 #[derive(Debug, Drop)]
 pub struct FolderCopy {
     source: Path,
@@ -135,7 +137,8 @@ impl FolderCopy {
 
     /// Syncs the folder, which may still be filled.
     pub fn sync<T: Tree>(&mut self, alloc: Global, tree: &mut T) -> FolderStep
-        ensures steps { StepsOn (at_sync self.old) (record (at_sync self.old) { names = self.new.names }) result.did result.calls
+        ensures steps { StepsOn (at_sync self.old) (record (at_sync self.old) { names = self.new.names })
+            result.did result.calls
             (T.contents tree.old) (T.contents tree.new) (T.fault_count tree.old) (T.fault_count tree.new) }
         ensures rest { self.new ≡ record self.old { names = self.new.names } }
     {

@@ -1,5 +1,5 @@
-//! The copy of a folder itself: it is made where it is missing, and when its children are copied it is given its mode and synced; and the
-//! folders that are open while a tree is copied.
+//! The copy of a folder itself: it is made where it is missing, and when its children are copied it is
+//! given its mode and synced; and the folders that are open while a tree is copied.
 #![tactic(auto)]
 
 mod around;

@@ -1,9 +1,13 @@
 //! The folders that are open while a tree is copied.
-ghost use Rattle.std.specs.Prelude.{◌≡◌, ◌+◌, ◌<◌, ◌≤◌, ◌==◌, ◌∷◌, [], drop, length, false, true, IfNone, IfSome, OnErr, OnOk};
+ghost use Rattle.std.specs.Prelude.{◌≡◌, ◌+◌, ◌<◌, ◌≤◌, ◌==◌, ◌∷◌, [], drop, length};
+ghost use Rattle.std.specs.Prelude.{false, true, IfNone, IfSome, OnErr, OnOk};
 ghost use Rattle.copy_folders.specs.FolderCopying.{is_dirty, is_ready};
 ghost use Rattle.copy_folders.specs.FolderSteps.{Skips, StepsOn, SyncTried};
 ghost use Rattle.tree_walk.specs.Places.{is_empty, is_one_of};
-ghost use Rattle.copy_folders.specs.Levels.{IsLeft, LeavesClean, NearestSyncs, levels_closed, coming, dirtied_levels, emptied_levels, entered_levels, is_around_dirty, is_sync_next, made_levels, outermost, owed_at, owes, passed_levels, target_around, with_copy};
+ghost use Rattle.copy_folders.specs.Levels.{IsLeft, LeavesClean, NearestSyncs, levels_closed};
+ghost use Rattle.copy_folders.specs.Levels.{coming, dirtied_levels, emptied_levels, entered_levels};
+ghost use Rattle.copy_folders.specs.Levels.{is_around_dirty, is_sync_next, made_levels, outermost};
+ghost use Rattle.copy_folders.specs.Levels.{owed_at, owes, passed_levels, target_around, with_copy};
 
 use crate::around::{is_nearest_dirty, sync_nearest, target_of_nearest};
 use crate::copy::FolderCopy;
@@ -31,7 +35,14 @@ impl Model for Stack {
 
     ghost Value = { Stacked };
 
-    ghost view = { λ s. record { levels = record { inner = s.inner; around = s.around.nearest; left = s.left }; spare = s.around.spare } };
+    ghost view = { λ s. record {
+      levels = record {
+        inner = s.inner;
+        around = s.around.nearest;
+        left = s.left;
+      };
+      spare = s.around.spare;
+    } };
 
     ghost invariant = { λ s. s.left + length s.around.nearest ≤ 257 };
 }
@@ -71,16 +82,19 @@ impl Stack {
 
     /// The name that is met next there.
     pub fn next_name(&self) -> Option<&Name>
-        ensures some { IfSome result (λ name. self.now.levels.inner.names.names ≡ name.now ∷ drop 1 self.now.levels.inner.names.names) }
+        ensures some { IfSome result (λ name.
+            self.now.levels.inner.names.names ≡ name.now ∷ drop 1 self.now.levels.inner.names.names) }
         ensures none { IfNone result (self.now.levels.inner.names.names ≡ []) }
     {
         self.inner.names.first()
     }
 
-    /// Whether a thing that is yet to be met there has this name at its target. What is copied has the name `top`.
+    /// Whether a thing that is yet to be met there has this name at its target. What is
+    /// copied has the name `top`.
     #[tactic(auto, using(crate::proofs::Coming::coming_outside, crate::proofs::Coming::coming_inside))]
     pub fn is_coming(&self, top: &Name, name: &Name) -> bool
-        ensures { result ≡ is_one_of name.now (coming top.now self.now.levels.inner.names self.now.levels.around) }
+        ensures { result ≡ is_one_of name.now
+            (coming top.now self.now.levels.inner.names self.now.levels.around) }
     {
         if self.is_outermost() {
             self.is_top_coming(top, name)
@@ -203,7 +217,8 @@ impl Stack {
 
     /// The target of the folder that is worked was synced.
     pub fn mark_synced(&mut self)
-        ensures { self.new.levels ≡ with_copy (record self.old.levels.inner.copy { names = NamesState.Synced }) self.old.levels }
+        ensures { self.new.levels
+            ≡ with_copy (record self.old.levels.inner.copy { names = NamesState.Synced }) self.old.levels }
     {
         self.inner.copy.mark_synced();
     }
@@ -271,7 +286,8 @@ impl Stack {
 }
 
 impl Stack {
-    /// Folders that are not dirty are left, from the inner ones on. Whether one is dirty; else the outermost is worked.
+    /// Folders that are not dirty are left, from the inner ones on. Whether one is dirty; else
+    /// the outermost is worked.
     pub fn leave_clean(&mut self) -> bool
         ensures left { LeavesClean self.old.levels self.new.levels result }
     {
@@ -287,7 +303,8 @@ impl Stack {
 
     /// The one try to sync the folder that is worked. It takes no memory of its own.
     pub fn try_folder<T: Tree>(&mut self, alloc: Global, tree: &mut T) -> LastStepResult
-        ensures tried { SyncTried self.old.levels.inner.copy result self.new.levels.inner.copy (T.contents tree.old) (T.contents tree.new)
+        ensures tried { SyncTried self.old.levels.inner.copy result self.new.levels.inner.copy
+            (T.contents tree.old) (T.contents tree.new)
             (T.fault_count tree.old) (T.fault_count tree.new) }
         ensures rest { self.new.levels ≡ with_copy self.new.levels.inner.copy self.old.levels }
     {

@@ -2,8 +2,8 @@
 use job_reports::Trouble;
 use mc_text::Path;
 
-/// What is to be done next. A mode that is owed is the source's: the folder was made with the owner's rights too, so that its
-/// children can be made in it.
+/// What is to be done next. A mode that is owed is the source's: the folder was made with the owner's
+/// rights too, so that its children can be made in it.
 #[derive(Clone, Copy, Debug, Drop, PartialEq, Eq)]
 pub enum Stage {
     /// Nothing stands at the target. A folder is to be made, of a source with this mode.

@@ -11,7 +11,8 @@ use mc_text::Path;
 use std::alloc::Global;
 use tree_trait::Tree;
 
-/// A folder is made with these bits of its mode: its owner may list, change and search it, so that its children can come.
+/// A folder is made with these bits of its mode: its owner may list, change and search it, so
+/// that its children can come.
 const OWNER_MODE: u16 = 0o700;
 
 /// What a step did, how many changing calls it made, and where the folder stands then.
@@ -33,7 +34,8 @@ pub(crate) fn work<T: Tree>(
 ) -> AfterStep
     requires ready { is_ready stage ≡ true }
     requires sound { IsSound stage }
-    ensures { (source : Route) → MovesOn (copying source target.now stage names) result (T.contents tree.old) (T.contents tree.new)
+    ensures { (source : Route)
+        → MovesOn (copying source target.now stage names) result (T.contents tree.old) (T.contents tree.new)
         (T.fault_count tree.old) (T.fault_count tree.new) }
 {
     match stage {
@@ -53,7 +55,8 @@ fn finish<T: Tree>(
     names: NamesState,
 ) -> AfterStep
     requires sound { IsSound (Stage.Close owed) }
-    ensures { (source : Route) → MovesOn (copying source target.now (Stage.Close owed) names) result (T.contents tree.old) (T.contents tree.new)
+    ensures { (source : Route) → MovesOn (copying source target.now (Stage.Close owed) names) result
+        (T.contents tree.old) (T.contents tree.new)
         (T.fault_count tree.old) (T.fault_count tree.new) }
 {
     match owed {
@@ -68,7 +71,8 @@ fn sync_or_close<T: Tree>(
     target: &Path,
     names: NamesState,
 ) -> AfterStep
-    ensures { (source : Route) → MovesOn (copying source target.now (Stage.Close None) names) result (T.contents tree.old) (T.contents tree.new)
+    ensures { (source : Route) → MovesOn (copying source target.now (Stage.Close None) names) result
+        (T.contents tree.old) (T.contents tree.new)
         (T.fault_count tree.old) (T.fault_count tree.new) }
 {
     match names {
@@ -97,7 +101,8 @@ fn make<T: Tree>(
     names: NamesState,
 ) -> AfterStep
     requires { mode ≤ 0o7777 }
-    ensures { (source : Route) → MovesOn (copying source target.now (Stage.Make mode) names) result (T.contents tree.old) (T.contents tree.new)
+    ensures { (source : Route) → MovesOn (copying source target.now (Stage.Make mode) names) result
+        (T.contents tree.old) (T.contents tree.new)
         (T.fault_count tree.old) (T.fault_count tree.new) }
 {
     let stage = Stage::Make { mode };
@@ -136,7 +141,8 @@ fn give_mode<T: Tree>(
     names: NamesState,
 ) -> AfterStep
     requires { mode ≤ 0o7777 }
-    ensures { (source : Route) → MovesOn (copying source target.now (Stage.Close (Some mode)) names) result (T.contents tree.old) (T.contents tree.new)
+    ensures { (source : Route) → MovesOn (copying source target.now (Stage.Close (Some mode)) names) result
+        (T.contents tree.old) (T.contents tree.new)
         (T.fault_count tree.old) (T.fault_count tree.new) }
 {
     let stage = Stage::Close { owed: Some(mode) };
@@ -156,7 +162,8 @@ fn give_mode<T: Tree>(
 
 pub(crate) fn sync<T: Tree>(alloc: Global, tree: &mut T, target: &Path) -> AfterStep
     ensures stays { result.stage ≡ Stage.Close None }
-    ensures moves { (source : Route) → MovesOn (copying source target.now (Stage.Close None) NamesState.Dirty) result (T.contents tree.old) (T.contents tree.new)
+    ensures moves { (source : Route) → MovesOn (copying source target.now (Stage.Close None) NamesState.Dirty)
+        result (T.contents tree.old) (T.contents tree.new)
         (T.fault_count tree.old) (T.fault_count tree.new) }
 {
     let stage = Stage::Close { owed: None };
@@ -173,7 +180,12 @@ pub(crate) fn sync<T: Tree>(alloc: Global, tree: &mut T, target: &Path) -> After
 
 /// Nothing is owed: no call is made.
 fn closed() -> AfterStep
-    ensures { result ≡ record { did = FolderDid.Closed; calls = 0; stage = Stage.Done; names = NamesState.Synced } }
+    ensures { result ≡ record {
+      did = FolderDid.Closed;
+      calls = 0;
+      stage = Stage.Done;
+      names = NamesState.Synced;
+    } }
 {
     AfterStep {
         did: FolderDid::Closed,

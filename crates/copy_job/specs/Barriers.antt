@@ -11,5 +11,7 @@ use Rattle.copy_job.specs.SubtreeSteps.{SubtreeSteps}
 
 abbrev pub BarrierLaw : Type 0
 BarrierLaw =
-    (free : Route → Bool) (replies : Replies) (old new : SubtreeCopying) (trouble : Trouble) (calls : ℕ) (dirty dirty_after : List Route) (before after : Option CallLog) (faults faults_after : ℕ)
-    → SubtreeSteps free replies old new (Troubled trouble) calls dirty dirty_after before after faults faults_after → IsSteady old.at → IsGoing old → trouble.barrier ≡ at_barrier new.at
+    (free : Route → Bool) (replies : Replies) (old new : SubtreeCopying) (trouble : Trouble) (calls : ℕ)
+    (dirty dirty_after : List Route) (before after : Option CallLog) (faults faults_after : ℕ)
+    → SubtreeSteps free replies old new (Troubled trouble) calls dirty dirty_after before after faults
+    faults_after → IsSteady old.at → IsGoing old → trouble.barrier ≡ at_barrier new.at

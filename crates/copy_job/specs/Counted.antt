@@ -20,7 +20,8 @@ MeetsFault (Troubled trouble) = trouble.cause ≡ Tree refused.Fault
 MeetsFault (Skipped path cause) = cause ≡ Tree refused.Fault
 MeetsFault did = ⊥
 
-pub record StepCounts (did : Did) (calls : ℕ) (before after : Option CallLog) (faults faults_after : ℕ) : Type 0 where
+pub record StepCounts (did : Did) (calls : ℕ) (before after : Option CallLog)
+    (faults faults_after : ℕ) : Type 0 where
   pub counted : IfKnown before (λ log. IfKnown after (HasMore log calls))
   pub few : calls ≤ 3
   pub unknown : before ≡ None → after ≡ None
@@ -29,11 +30,14 @@ pub record StepCounts (did : Did) (calls : ℕ) (before after : Option CallLog) 
 
 abbrev pub CountLaw : Type 0
 CountLaw =
-    (free : Route → Bool) (replies : Replies) (old new : SubtreeCopying) (did : Did) (calls : ℕ) (dirty dirty_after : List Route) (before after : Option CallLog) (faults faults_after : ℕ)
-    → SubtreeSteps free replies old new did calls dirty dirty_after before after faults faults_after → StepCounts did calls before after faults faults_after
+    (free : Route → Bool) (replies : Replies) (old new : SubtreeCopying) (did : Did) (calls : ℕ)
+    (dirty dirty_after : List Route) (before after : Option CallLog) (faults faults_after : ℕ)
+    → SubtreeSteps free replies old new did calls dirty dirty_after before after faults faults_after
+    → StepCounts did calls before after faults faults_after
 
 -- the same of a last step, which makes two calls at most, and tells the refusal of the sync that it tried
-pub record LastStepCounts (last : LastStepResult) (before after : Option CallLog) (faults faults_after : ℕ) : Type 0 where
+pub record LastStepCounts (last : LastStepResult) (before after : Option CallLog)
+    (faults faults_after : ℕ) : Type 0 where
   pub counted : IfKnown before (λ log. IfKnown after (HasMore log last.calls))
   pub few : last.calls ≤ 2
   pub unknown : before ≡ None → after ≡ None
@@ -42,5 +46,7 @@ pub record LastStepCounts (last : LastStepResult) (before after : Option CallLog
 
 abbrev pub LastCountLaw : Type 0
 LastCountLaw =
-    (ending : Ending) (old new : SubtreeCopying) (last : LastStepResult) (dirty dirty_after : List Route) (before after : Option CallLog) (faults faults_after : ℕ)
-    → LastSubtreeStep ending old new last dirty dirty_after before after faults faults_after → LastStepCounts last before after faults faults_after
+    (ending : Ending) (old new : SubtreeCopying) (last : LastStepResult) (dirty dirty_after : List Route)
+    (before after : Option CallLog) (faults faults_after : ℕ)
+    → LastSubtreeStep ending old new last dirty dirty_after before after faults faults_after
+    → LastStepCounts last before after faults faults_after

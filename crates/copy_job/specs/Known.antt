@@ -12,5 +12,7 @@ StillTells after = (now : CallLog) × (after ≡ Some now)
 
 abbrev pub KnownLaw : Type 0
 KnownLaw =
-    (free : Route → Bool) (replies : Replies) (old new : SubtreeCopying) (did : Did) (calls : ℕ) (dirty dirty_after : List Route) (log : CallLog) (after : Option CallLog) (faults faults_after : ℕ)
-    → SubtreeSteps free replies old new did calls dirty dirty_after (Some log) after faults faults_after → StillTells after
+    (free : Route → Bool) (replies : Replies) (old new : SubtreeCopying) (did : Did) (calls : ℕ)
+    (dirty dirty_after : List Route) (log : CallLog) (after : Option CallLog) (faults faults_after : ℕ)
+    → SubtreeSteps free replies old new did calls dirty dirty_after (Some log) after faults faults_after
+    → StillTells after

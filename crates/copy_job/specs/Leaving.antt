@@ -15,7 +15,8 @@ owes_at_end stage dirty = owed_at (closing stage) dirty
 
 -- no name is left in the folder that is worked, and it owes nothing
 abbrev pub is_done_at : Levels → Bool
-is_done_at l = if is_empty l.inner.names.names then not (owes_at_end l.inner.copy.stage (is_dirty l.inner.copy.names)) else false
+is_done_at l = if is_empty l.inner.names.names
+    then not (owes_at_end l.inner.copy.stage (is_dirty l.inner.copy.names)) else false
 
 abbrev pub is_done_in : ItemAtWork → Levels → Bool
 is_done_in Next l = is_done_at l

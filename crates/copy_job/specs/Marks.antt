@@ -9,7 +9,8 @@ use Rattle.copy_tree.specs.declared.item.ItemAtWork.TheVariants.{Next, File, Lin
 use Rattle.copy_folders.specs.Levels.{Levels, is_around_dirty, target_around}
 use Rattle.copy_tree.specs.Standing.{Seen}
 
--- the next call is the sync of the folder around, so that the one that is worked, which was made, is on the disk
+-- the next call is the sync of the folder around, so that the one that is worked, which
+-- was made, is on the disk
 abbrev pub brings_in : ItemAtWork → Levels → Bool
 brings_in Next l = is_around_dirty l.around
 brings_in (File f) l = false
@@ -27,11 +28,13 @@ folder_worked c = if brings_made c then target_around c.levels.around else c.lev
 abbrev pub was_dirty : Seen → Bool
 was_dirty c = if brings_made c then true else is_dirty c.levels.inner.copy.names
 
--- The innermost folder is dirty after a step that worked there; where one was made in it, that one is the innermost.
+-- The innermost folder is dirty after a step that worked there; where one was made in it,
+-- that one is the innermost.
 abbrev pub is_left_dirty : Did → Seen → Bool
 is_left_dirty (Made path) c = true
 is_left_dirty did c = is_dirty c.levels.inner.copy.names
 
 -- the folder that a step worked is dirty after it
 abbrev pub is_dirty_after : Seen → Did → Seen → Bool
-is_dirty_after old did new = if brings_made old then is_around_dirty new.levels.around else is_left_dirty did new
+is_dirty_after old did new =
+    if brings_made old then is_around_dirty new.levels.around else is_left_dirty did new

@@ -1,5 +1,6 @@
--- A folder that is to be copied onto a folder: the two are merged by others, and the copy of it is over, before it has changed anything. What stands at the target of a file or
--- a link, and is kept: the copy is done with it. What is asked whether it is to be replaced.
+-- A folder that is to be copied onto a folder: the two are merged by others, and the copy of it is over,
+-- before it has changed anything. What stands at the target of a file or a link, and is kept: the copy is
+-- done with it. What is asked whether it is to be replaced.
 use Rattle.std.specs.Prelude.{◌≡◌, ◌≤◌, ◌^◌, ℕ, Bool, true, false, List, [], length, Option}
 use Rattle.mc_text.specs.Routes.{Route}
 use Rattle.tree_trait.specs.Change.{CallLog}
@@ -29,8 +30,10 @@ pub record IsOver (c : Seen) : Type 0 where
   pub owes : owes_at_end c.levels.inner.copy.stage false ≡ false
   pub clean : is_dirty c.levels.inner.copy.names ≡ false
 
--- What is merged is what is copied itself, once, before anything was changed; what lies in it can be told, with its targets; and then the copy is over.
-pub record MergesTop (old : SubtreeCopying) (pair : Pair) (names : List (List ℕ)) (new : SubtreeCopying) : Type 0 where
+-- What is merged is what is copied itself, once, before anything was changed; what lies in it can be told,
+-- with its targets; and then the copy is over.
+pub record MergesTop (old : SubtreeCopying) (pair : Pair) (names : List (List ℕ))
+    (new : SubtreeCopying) : Type 0 where
   pub fresh : is_fresh old.at.stage ≡ true
   pub top : pair ≡ old.top
   pub short : AreShort pair names
@@ -44,8 +47,8 @@ pub record IsPassed (c : Seen) : Type 0 where
   pub around : c.levels.around ≡ []
   pub names : c.levels.inner.names.names ≡ []
 
--- What is kept is what stands at the target of what is copied itself, at which nothing is at work; then nothing is left to be copied, and where nothing was changed before
--- the copy is over.
+-- What is kept is what stands at the target of what is copied itself, at which nothing is at work; then
+-- nothing is left to be copied, and where nothing was changed before the copy is over.
 pub record KeepsTop (old : SubtreeCopying) (path : Route) (new : SubtreeCopying) : Type 0 where
   pub target : path ≡ old.top.target
   pub none : old.at.item ≡ Next
@@ -62,14 +65,24 @@ pub record AsksTop (old new : SubtreeCopying) : Type 0 where
   pub same : new ≡ old
 
 pub record MergedLaw : Type 0 where
-  pub merges : (free : Route → Bool) (replies : Replies) (old new : SubtreeCopying) (pair : Pair) (names : List (List ℕ)) (calls : ℕ) (dirty dirty_after : List Route) (before after : Option CallLog) (faults faults_after : ℕ)
-      → SubtreeSteps free replies old new (Merges ByCopy pair names) calls dirty dirty_after before after faults faults_after → IsInPlace old.top old.at → IsUnbegun old.at → MergesTop old pair names new
-  pub keeps : (free : Route → Bool) (replies : Replies) (old new : SubtreeCopying) (path : Route) (calls : ℕ) (dirty dirty_after : List Route) (before after : Option CallLog) (faults faults_after : ℕ)
-      → SubtreeSteps free replies old new (Kept path) calls dirty dirty_after before after faults faults_after → IsInPlace old.top old.at → IsUnbegun old.at → KeepsTop old path new
-  pub asks : (free : Route → Bool) (replies : Replies) (old new : SubtreeCopying) (question : Question) (calls : ℕ) (dirty dirty_after : List Route) (before after : Option CallLog) (faults faults_after : ℕ)
-      → SubtreeSteps free replies old new (Asked question) calls dirty dirty_after before after faults faults_after → IsInPlace old.top old.at → AsksTop old new
+  pub merges : (free : Route → Bool) (replies : Replies) (old new : SubtreeCopying) (pair : Pair)
+      (names : List (List ℕ)) (calls : ℕ) (dirty dirty_after : List Route) (before after : Option CallLog)
+      (faults faults_after : ℕ)
+      → SubtreeSteps free replies old new (Merges ByCopy pair names) calls dirty dirty_after before after
+      faults faults_after → IsInPlace old.top old.at → IsUnbegun old.at → MergesTop old pair names new
+  pub keeps : (free : Route → Bool) (replies : Replies) (old new : SubtreeCopying) (path : Route) (calls : ℕ)
+      (dirty dirty_after : List Route) (before after : Option CallLog) (faults faults_after : ℕ)
+      → SubtreeSteps free replies old new (Kept path) calls dirty dirty_after before after faults faults_after
+      → IsInPlace old.top old.at → IsUnbegun old.at → KeepsTop old path new
+  pub asks : (free : Route → Bool) (replies : Replies) (old new : SubtreeCopying) (question : Question)
+      (calls : ℕ) (dirty dirty_after : List Route) (before after : Option CallLog) (faults faults_after : ℕ)
+      → SubtreeSteps free replies old new (Asked question) calls dirty dirty_after before after faults
+      faults_after → IsInPlace old.top old.at → AsksTop old new
   -- a copy that is over stays so, and changes nothing
-  pub step : (free : Route → Bool) (replies : Replies) (old new : SubtreeCopying) (did : Did) (calls : ℕ) (dirty dirty_after : List Route) (before after : Option CallLog) (faults faults_after : ℕ)
-      → SubtreeSteps free replies old new did calls dirty dirty_after before after faults faults_after → IsOver old.at → IsOver new.at × (changes did ≡ false)
-  pub skip : (cause : Cause) (old new : SubtreeCopying) (did : Did) → SubtreeSkips cause old did new → IsOver old.at → IsOver new.at
+  pub step : (free : Route → Bool) (replies : Replies) (old new : SubtreeCopying) (did : Did) (calls : ℕ)
+      (dirty dirty_after : List Route) (before after : Option CallLog) (faults faults_after : ℕ)
+      → SubtreeSteps free replies old new did calls dirty dirty_after before after faults faults_after
+      → IsOver old.at → IsOver new.at × (changes did ≡ false)
+  pub skip : (cause : Cause) (old new : SubtreeCopying) (did : Did) → SubtreeSkips cause old did new
+      → IsOver old.at → IsOver new.at
   pub retry : (c : SubtreeCopying) → IsOver c.at → (let again : SubtreeCopying = retries c in IsOver again.at)

@@ -1,5 +1,7 @@
--- How many steps a copy makes at most before its end or its next trouble, whatever the tree lists. Each step leaves fewer.
-use Rattle.std.specs.Prelude.{◌≡◌, ◌<◌, ◌≤◌, ℕ, ◌+◌, ◌-◌, ◌*◌, ◌^◌, Bool, true, false, List, [], ◌∷◌, Option, Some, None}
+-- How many steps a copy makes at most before its end or its next trouble, whatever the tree
+-- lists. Each step leaves fewer.
+use Rattle.std.specs.Prelude.{◌≡◌, ◌<◌, ◌≤◌, ℕ, ◌+◌, ◌-◌, ◌*◌, ◌^◌, Bool}
+use Rattle.std.specs.Prelude.{true, false, List, [], ◌∷◌, Option, Some, None}
 use Rattle.mc_text.specs.Routes.{Route}
 use Rattle.tree_trait.specs.Change.{CallLog}
 use Rattle.job_answers.specs.declared.replies.Replies.{Replies}
@@ -52,7 +54,8 @@ around_rank (outer ∷ around) = level_rank outer + around_rank around
 abbrev pub levels_rank : Levels → ℕ
 levels_rank l = level_rank l.inner + around_rank l.around
 
--- of a thing that is to be begun, where none takes more than so many steps; and once more where its part is removed before
+-- of a thing that is to be begun, where none takes more than so many steps; and once more where
+-- its part is removed before
 abbrev pub anew : ℕ → ℕ
 anew most = most + 16
 
@@ -98,22 +101,31 @@ goes_on did = true
 -- Each step after which the copy goes on leaves fewer.
 abbrev pub RankLaw : Type 0
 RankLaw =
-    (free : Route → Bool) (replies : Replies) (old new : SubtreeCopying) (did : Did) (calls : ℕ) (dirty dirty_after : List Route) (before after : Option CallLog) (faults faults_after : ℕ)
-    → SubtreeSteps free replies old new did calls dirty dirty_after before after faults faults_after → IsSteady old.at → IsGoing old → goes_on did ≡ true → rank new.at < rank old.at
+    (free : Route → Bool) (replies : Replies) (old new : SubtreeCopying) (did : Did) (calls : ℕ)
+    (dirty dirty_after : List Route) (before after : Option CallLog) (faults faults_after : ℕ)
+    → SubtreeSteps free replies old new did calls dirty dirty_after before after faults faults_after
+    → IsSteady old.at → IsGoing old → goes_on did ≡ true → rank new.at < rank old.at
 
 -- A copy that begins is steady, as this law wants it, and each step, skip and retry keeps it so.
 pub record SteadyLaw : Type 0 where
-  pub begins : (job : ℕ) (top : Pair) → (let copy : SubtreeCopying = begun_subtree_copy job top in IsSteady copy.at)
-  pub step : (free : Route → Bool) (replies : Replies) (old new : SubtreeCopying) (did : Did) (calls : ℕ) (dirty dirty_after : List Route) (before after : Option CallLog) (faults faults_after : ℕ)
-      → SubtreeSteps free replies old new did calls dirty dirty_after before after faults faults_after → IsSteady old.at → IsSteady new.at
-  pub skip : (cause : Cause) (old new : SubtreeCopying) (did : Did) → SubtreeSkips cause old did new → IsSteady old.at → IsSteady new.at
-  pub retry : (c : SubtreeCopying) → IsSteady c.at → (let again : SubtreeCopying = retries c in IsSteady again.at)
+  pub begins : (job : ℕ) (top : Pair)
+      → (let copy : SubtreeCopying = begun_subtree_copy job top in IsSteady copy.at)
+  pub step : (free : Route → Bool) (replies : Replies) (old new : SubtreeCopying) (did : Did) (calls : ℕ)
+      (dirty dirty_after : List Route) (before after : Option CallLog) (faults faults_after : ℕ)
+      → SubtreeSteps free replies old new did calls dirty dirty_after before after faults faults_after
+      → IsSteady old.at → IsSteady new.at
+  pub skip : (cause : Cause) (old new : SubtreeCopying) (did : Did) → SubtreeSkips cause old did new
+      → IsSteady old.at → IsSteady new.at
+  pub retry : (c : SubtreeCopying) → IsSteady c.at
+      → (let again : SubtreeCopying = retries c in IsSteady again.at)
 
--- What a person answers to a trouble. A skip after which the copy goes on leaves two steps fewer at least; a retry leaves those of one thing
--- more at most, which is begun again.
+-- What a person answers to a trouble. A skip after which the copy goes on leaves two steps fewer at least;
+-- a retry leaves those of one thing more at most, which is begun again.
 pub record AnsweredLaw : Type 0 where
-  pub skip : (cause : Cause) (old new : SubtreeCopying) (did : Did) → SubtreeSkips cause old did new → IsSteady old.at → at_barrier old.at ≡ false → goes_on did ≡ true → rank new.at + 2 ≤ rank old.at
-  pub retry : (c : SubtreeCopying) → IsGoing c → (let again : SubtreeCopying = retries c in rank again.at) ≤ rank c.at + anew (2 ^ 64) + 4
+  pub skip : (cause : Cause) (old new : SubtreeCopying) (did : Did) → SubtreeSkips cause old did new
+      → IsSteady old.at → at_barrier old.at ≡ false → goes_on did ≡ true → rank new.at + 2 ≤ rank old.at
+  pub retry : (c : SubtreeCopying) → IsGoing c
+      → (let again : SubtreeCopying = retries c in rank again.at) ≤ rank c.at + anew (2 ^ 64) + 4
 
 -- Of last steps: the part at work, and one try for each folder that is dirty.
 abbrev pub marks_around : List Level → ℕ
@@ -139,5 +151,7 @@ WaitingLaw = (c : SubtreeCopying) → IsGoing c → last_rank c.at < rank c.at
 -- Each last step but the end leaves fewer.
 abbrev pub LastRankLaw : Type 0
 LastRankLaw =
-    (ending : Ending) (old new : SubtreeCopying) (last : LastStepResult) (dirty dirty_after : List Route) (before after : Option CallLog) (faults faults_after : ℕ)
-    → LastSubtreeStep ending old new last dirty dirty_after before after faults faults_after → ends last.did ≡ false → last_rank new.at < last_rank old.at
+    (ending : Ending) (old new : SubtreeCopying) (last : LastStepResult) (dirty dirty_after : List Route)
+    (before after : Option CallLog) (faults faults_after : ℕ)
+    → LastSubtreeStep ending old new last dirty dirty_after before after faults faults_after
+    → ends last.did ≡ false → last_rank new.at < last_rank old.at

@@ -6,7 +6,9 @@ use Rattle.job_answers.specs.Skipping.{holds, kind_in}
 use Rattle.job_answers.specs.declared.replies.Replies.{Replies}
 use Rattle.job_reports.specs.declared.report.Cause.{Cause}
 use Rattle.job_reports.specs.declared.report.Did.{Did}
-use Rattle.job_reports.specs.declared.report.Did.TheVariants.{Began, Chunk, Placed, Removed, Made, Set, Kept, Skipped, Cleaned, Barrier, Asked, Merges, Moved, Troubled, Ended}
+use Rattle.job_reports.specs.declared.report.Did.TheVariants.{Began, Chunk, Placed, Removed, Made}
+use Rattle.job_reports.specs.declared.report.Did.TheVariants.{Set, Kept, Skipped, Cleaned, Barrier}
+use Rattle.job_reports.specs.declared.report.Did.TheVariants.{Asked, Merges, Moved, Troubled, Ended}
 use Rattle.job_reports.specs.declared.report.Ending.{Ending}
 use Rattle.job_reports.specs.declared.report.Ending.TheVariants.{Finished, Aborted, Killed, NoMemory}
 use Rattle.job_reports.specs.declared.report.LastStepResult.{LastStepResult}
@@ -62,13 +64,15 @@ abbrev pub part_after_last_step : Did → Option Route → Option Route
 part_after_last_step Barrier was = was
 part_after_last_step did was = None
 
-pub record IsAfterLastStep (ending : Ending) (old : SubtreeCopying) (did : Did) (new : SubtreeCopying) : Type 0 where
+pub record IsAfterLastStep (ending : Ending) (old : SubtreeCopying) (did : Did)
+    (new : SubtreeCopying) : Type 0 where
   pub may : MayTellLast ending (part_of old.at.item) did
   pub top : new.top ≡ old.top
   pub stage : new.at.stage ≡ old.at.stage
   pub part : part_of new.at.item ≡ part_after_last_step did (part_of old.at.item)
 
--- a folder of the copy's own joined the list, or left it with the report of its sync, or the list is as it was
+-- a folder of the copy's own joined the list, or left it with the report of its sync,
+-- or the list is as it was
 pub record ChangesOwn (c : SubtreeCopying) (did : Did) (dirty dirty_after : List Route) : Type 0 where
   pub folder : Route
   pub own : is_own c folder ≡ true
@@ -78,14 +82,24 @@ pub record ChangesOwn (c : SubtreeCopying) (did : Did) (dirty dirty_after : List
   pub synced : was ≡ true → now ≡ false → did ≡ Barrier
 
 pub record ReportingLaw : Type 0 where
-  pub step : (free : Route → Bool) (replies : Replies) (old new : SubtreeCopying) (did : Did) (calls : ℕ) (dirty dirty_after : List Route) (before after : Option CallLog) (faults faults_after : ℕ)
-      → SubtreeSteps free replies old new did calls dirty dirty_after before after faults faults_after → MayTell did
-  pub last : (ending : Ending) (old new : SubtreeCopying) (last : LastStepResult) (dirty dirty_after : List Route) (before after : Option CallLog) (faults faults_after : ℕ)
-      → LastSubtreeStep ending old new last dirty dirty_after before after faults faults_after → IsWindable old.at.item → IsAfterLastStep ending old last.did new
-  pub list : (free : Route → Bool) (replies : Replies) (old new : SubtreeCopying) (did : Did) (calls : ℕ) (dirty dirty_after : List Route) (before after : Option CallLog) (faults faults_after : ℕ)
-      → SubtreeSteps free replies old new did calls dirty dirty_after before after faults faults_after → IsInPlace old.top old.at → ChangesOwn old did dirty dirty_after
+  pub step : (free : Route → Bool) (replies : Replies) (old new : SubtreeCopying) (did : Did) (calls : ℕ)
+      (dirty dirty_after : List Route) (before after : Option CallLog) (faults faults_after : ℕ)
+      → SubtreeSteps free replies old new did calls dirty dirty_after before after faults faults_after
+      → MayTell did
+  pub last : (ending : Ending) (old new : SubtreeCopying) (last : LastStepResult)
+      (dirty dirty_after : List Route) (before after : Option CallLog) (faults faults_after : ℕ)
+      → LastSubtreeStep ending old new last dirty dirty_after before after faults faults_after
+      → IsWindable old.at.item → IsAfterLastStep ending old last.did new
+  pub list : (free : Route → Bool) (replies : Replies) (old new : SubtreeCopying) (did : Did) (calls : ℕ)
+      (dirty dirty_after : List Route) (before after : Option CallLog) (faults faults_after : ℕ)
+      → SubtreeSteps free replies old new did calls dirty dirty_after before after faults faults_after
+      → IsInPlace old.top old.at → ChangesOwn old did dirty dirty_after
   -- what is passed over is in a trouble of a kind that is skipped
-  pub kinds : (free : Route → Bool) (replies : Replies) (old new : SubtreeCopying) (path : Route) (cause : Cause) (calls : ℕ) (dirty dirty_after : List Route) (before after : Option CallLog) (faults faults_after : ℕ)
-      → SubtreeSteps free replies old new (Skipped path cause) calls dirty dirty_after before after faults faults_after → holds replies.skips (kind_in cause) ≡ true
+  pub kinds : (free : Route → Bool) (replies : Replies) (old new : SubtreeCopying) (path : Route)
+      (cause : Cause) (calls : ℕ) (dirty dirty_after : List Route) (before after : Option CallLog)
+      (faults faults_after : ℕ)
+      → SubtreeSteps free replies old new (Skipped path cause) calls dirty dirty_after before after faults
+      faults_after → holds replies.skips (kind_in cause) ≡ true
   -- the folder that a last step tries is the one that is worked then
-  pub tried : (old new : SubtreeCopying) → new.top ≡ old.top → IsInPlace old.top new.at → is_own old new.at.levels.inner.copy.target ≡ true
+  pub tried : (old new : SubtreeCopying) → new.top ≡ old.top → IsInPlace old.top new.at
+      → is_own old new.at.levels.inner.copy.target ≡ true

@@ -1,5 +1,6 @@
 -- Where the copy of a thing with all that lies in it stands, as a job works it.
-use Rattle.std.specs.Prelude.{◌≡◌, ℕ, ◌||◌, Bool, true, false, List, [], ◌∷◌, if◌then◌else◌, Option, Some, None}
+use Rattle.std.specs.Prelude.{◌≡◌, ℕ, ◌||◌, Bool, true, false, List, []}
+use Rattle.std.specs.Prelude.{◌∷◌, if◌then◌else◌, Option, Some, None}
 use Rattle.mc_text.specs.Routes.{Route}
 use Rattle.job_reports.specs.declared.job.Pair.{Pair}
 use Rattle.job_reports.specs.Paths.{folder_of}
@@ -31,10 +32,11 @@ named_of (name ∷ folder) = record { folder = folder; name = name }
 
 -- the copy just begun
 abbrev pub begun_subtree_copy : ℕ → Pair → SubtreeCopying
-begun_subtree_copy job top = record { top = top; at = begun_tree_copy job (named_of top.source) (named_of top.target) }
+begun_subtree_copy job top =
+    record { top = top; at = begun_tree_copy job (named_of top.source) (named_of top.target) }
 
--- What holds of each copy, whatever it has come to: it keeps to its place; what is at work lies in the folder that is worked; and a last
--- step can be made.
+-- What holds of each copy, whatever it has come to: it keeps to its place; what is at work lies in the
+-- folder that is worked; and a last step can be made.
 pub record IsHeld (top : Pair) (folder : Route) (c : Seen) : Type 0 where
   pub holds : folder ≡ folder_of top.target
   pub in_place : IsInPlace top c

@@ -1,4 +1,5 @@
--- What a history can tell of such a copy: what is copied, the part that stands, and whether anything was changed. How that goes on, each report says.
+-- What a history can tell of such a copy: what is copied, the part that stands, and whether anything was
+-- changed. How that goes on, each report says.
 use Rattle.std.specs.Prelude.{◌≡◌, ℕ, Bool, List, Option, Some, None}
 use Rattle.mc_text.specs.Routes.{Route}
 use Rattle.tree_trait.specs.Change.{CallLog}
@@ -29,7 +30,10 @@ pub record IsKept (old new : SubtreeCopying) : Type 0 where
 
 -- So it stands after each step and each skip; and a retry changes nothing of that.
 pub record ToldLaw : Type 0 where
-  pub step : (free : Route → Bool) (replies : Replies) (old new : SubtreeCopying) (did : Did) (calls : ℕ) (dirty dirty_after : List Route) (before after : Option CallLog) (faults faults_after : ℕ)
-      → SubtreeSteps free replies old new did calls dirty dirty_after before after faults faults_after → IsGoing old → IsAfter did old new
-  pub skip : (cause : Cause) (old new : SubtreeCopying) (did : Did) → SubtreeSkips cause old did new → IsGoing old → IsAfter did old new
+  pub step : (free : Route → Bool) (replies : Replies) (old new : SubtreeCopying) (did : Did) (calls : ℕ)
+      (dirty dirty_after : List Route) (before after : Option CallLog) (faults faults_after : ℕ)
+      → SubtreeSteps free replies old new did calls dirty dirty_after before after faults faults_after
+      → IsGoing old → IsAfter did old new
+  pub skip : (cause : Cause) (old new : SubtreeCopying) (did : Did) → SubtreeSkips cause old did new
+      → IsGoing old → IsAfter did old new
   pub retry : (c : SubtreeCopying) → IsKept c (retries c)

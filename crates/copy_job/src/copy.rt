@@ -60,8 +60,8 @@ impl SubtreeCopy {
         })
     }
 
-    /// Does the next piece of work, where this was answered to the job. Where that is in a trouble of a kind that is skipped, it is
-    /// passed over.
+    /// Does the next piece of work, where this was answered to the job. Where that is in a trouble of a
+    /// kind that is skipped, it is passed over.
     pub fn step<T: Tree, P: PartTest>(
         &mut self,
         alloc: Global,
@@ -72,7 +72,8 @@ impl SubtreeCopy {
     ) -> StepResult
         requires going { IsGoing self.old }
         ensures steps { SubtreeSteps (P.is_free parts.now) replies self.old self.new result.did result.calls
-            dirty.old dirty.new (T.contents tree.old) (T.contents tree.new) (T.fault_count tree.old) (T.fault_count tree.new) }
+            dirty.old dirty.new (T.contents tree.old) (T.contents tree.new) (T.fault_count tree.old)
+            (T.fault_count tree.new) }
         ensures own { ChangesOwn self.old result.did dirty.old dirty.new }
         ensures in_place { IsInPlace self.old.top self.old.at }
         ensures going { IsGoing self.new }
@@ -100,8 +101,8 @@ impl SubtreeCopy {
         self.machine.retry();
     }
 
-    /// Makes the next of the last steps of a job that is to end so: the part is removed, if it can be; each folder that is dirty is
-    /// tried once to be synced, the inner ones first; and then it ends.
+    /// Makes the next of the last steps of a job that is to end so: the part is removed, if it can be; each
+    /// folder that is dirty is tried once to be synced, the inner ones first; and then it ends.
     pub fn wind_up<T: Tree>(
         &mut self,
         alloc: Global,
@@ -113,8 +114,10 @@ impl SubtreeCopy {
             (T.contents tree.old) (T.contents tree.new) (T.fault_count tree.old) (T.fault_count tree.new) }
         ensures wound { IsAfterLastStep ending self.old result.did self.new }
         ensures own { is_own self.old self.new.at.levels.inner.copy.target ≡ true }
-        ensures called { IfKnown (T.contents tree.old) (λ log. LastCalls (part_of self.old.at.item) result.did log (T.contents tree.new)) }
-        ensures told { IfKnown (T.contents tree.old) (λ log. TellsTried (part_of self.old.at.item) result.did result.left self.new.at.levels.inner.copy.target log (T.contents tree.new)) }
+        ensures called { IfKnown (T.contents tree.old) (λ log.
+            LastCalls (part_of self.old.at.item) result.did log (T.contents tree.new)) }
+        ensures told { IfKnown (T.contents tree.old) (λ log. TellsTried (part_of self.old.at.item) result.did
+            result.left self.new.at.levels.inner.copy.target log (T.contents tree.new)) }
     {
         let last = self.machine.wind_up(alloc, tree, ending);
         dirty.note_try(&last.did, last.left, self.machine.folder());

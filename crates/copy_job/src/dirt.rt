@@ -6,7 +6,8 @@ ghost use Rattle.copy_job.specs.Marks.{brings_made as brings, is_left_dirty as l
 use copy_tree::{ItemAtWork, TreeCopy};
 use job_reports::Did;
 
-/// Whether the next call is the sync of the folder around, so that the one that is worked, which was made, is on the disk.
+/// Whether the next call is the sync of the folder around, so that the one that is worked, which
+/// was made, is on the disk.
 pub(crate) fn brings_made(machine: &TreeCopy) -> bool
     ensures { result ≡ brings (seen_copy machine.now) }
 {

@@ -54,12 +54,14 @@ pub fn what_a_trouble_leaves()
     ensures { TroubleLaw }
 {}
 
-/// A copy that has changed nothing yet has nothing at work and is in no folder, and its troubles are at no barrier.
+/// A copy that has changed nothing yet has nothing at work and is in no folder, and its
+/// troubles are at no barrier.
 pub fn what_an_unbegun_copy_is()
     ensures { UnbegunLaw }
 {}
 
-/// A copy that merges has changed nothing, what it merges is what it copies, and then it is over and changes nothing more.
+/// A copy that merges has changed nothing, what it merges is what it copies, and then it is over
+/// and changes nothing more.
 pub fn what_a_merge_leaves()
     ensures { MergedLaw }
 {}

@@ -1,8 +1,11 @@
-//! Folders that owe nothing are left before a step, so that the folder that is worked then is the one that the step changes.
+//! Folders that owe nothing are left before a step, so that the folder that is worked then is the
+//! one that the step changes.
 ghost use Rattle.std.specs.Prelude.{◌≡◌, false, true};
 ghost use Rattle.copy_tree.specs.Standing.{seen_copy};
 ghost use Rattle.copy_tree.specs.TreeCopySteps.{IsWorkable, Leaves};
-ghost use Rattle.copy_job.specs.Leaving.{LeavesSettled, is_done as has_ended, is_done_at as has_ended_at, may_leave as leaves_next, may_leave_at as leaves_next_at, owes_at_end as owes_then};
+ghost use Rattle.copy_job.specs.Leaving.{LeavesSettled, is_done as has_ended};
+ghost use Rattle.copy_job.specs.Leaving.{is_done_at as has_ended_at, may_leave as leaves_next};
+ghost use Rattle.copy_job.specs.Leaving.{may_leave_at as leaves_next_at, owes_at_end as owes_then};
 
 use copy_folders::{Stack, Stage};
 use copy_tree::{ItemAtWork, TreeCopy};

@@ -1,5 +1,5 @@
-//! The copy of a thing with all that lies in it, as a job works it: the machine of `copy_tree`, with the list of dirty folders, and
-//! troubles that are passed over without a question.
+//! The copy of a thing with all that lies in it, as a job works it: the machine of `copy_tree`, with the
+//! list of dirty folders, and troubles that are passed over without a question.
 #![tactic(auto)]
 
 mod copy;

@@ -8,7 +8,8 @@ use job_answers::Skips;
 use job_reports::StepResult;
 use std::alloc::Global;
 
-/// What a step has worked, or what it is in trouble with is passed over, where troubles of that kind are skipped.
+/// What a step has worked, or what it is in trouble with is passed over, where troubles
+/// of that kind are skipped.
 pub(crate) fn or_passed_over(
     machine: &mut TreeCopy,
     alloc: Global,

@@ -1,5 +1,6 @@
 //! Where a copy stands.
-ghost use Rattle.std.specs.Prelude.{◌≡◌, ◌∷◌, [], drop, None, Some, IfNone, IfOk, IfSome, is_some, option_map, true, if◌then◌else◌};
+ghost use Rattle.std.specs.Prelude.{◌≡◌, ◌∷◌, [], drop, None, Some, IfNone, IfOk};
+ghost use Rattle.std.specs.Prelude.{IfSome, is_some, option_map, true, if◌then◌else◌};
 ghost use Rattle.mc_text.specs.Routes.{parent_of};
 ghost use Rattle.copy_link.specs.LinkCopying.{has_part};
 ghost use Rattle.copy_tree.specs.Standing.{seen_copy};
@@ -86,7 +87,8 @@ pub(crate) fn part(item: &ItemAtWork) -> Option<&Path>
 }
 
 fn link_part(copy: &LinkCopy) -> Option<&Path>
-    ensures { option_map (λ part. part.now) result ≡ (if has_part copy.now.stage then Some copy.now.part else None) }
+    ensures { option_map (λ part. part.now) result
+        ≡ (if has_part copy.now.stage then Some copy.now.part else None) }
 {
     if copy.has_part() {
         Some(copy.part())

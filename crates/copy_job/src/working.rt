@@ -1,5 +1,5 @@
-//! A step with the list of dirty folders: the folder that is worked joins it before its first change, when there may still be no
-//! memory, and leaves it with its sync.
+//! A step with the list of dirty folders: the folder that is worked joins it before its first change, when
+//! there may still be no memory, and leaves it with its sync.
 ghost use Rattle.std.specs.Prelude.{◌≡◌, List, false, true};
 ghost use Rattle.mc_text.specs.Routes.{Route};
 ghost use Rattle.copy_folders.specs.FolderCopying.{is_dirty};
@@ -31,7 +31,8 @@ pub(crate) fn work<T: Tree, P: PartTest>(
 ) -> StepResult
     requires workable { IsWorkable machine.old.item }
     requires settled { may_leave (seen_copy machine.old) ≡ false }
-    ensures works { ListSteps (P.is_free parts.now) replies (seen_copy machine.old) (seen_copy machine.new) result dirty.old dirty.new
+    ensures works { ListSteps (P.is_free parts.now) replies (seen_copy machine.old) (seen_copy machine.new)
+        result dirty.old dirty.new
         (T.contents tree.old) (T.contents tree.new) (T.fault_count tree.old) (T.fault_count tree.new) }
     ensures workable { IsWorkable machine.new.item }
 {
@@ -58,7 +59,8 @@ fn bring_made<T: Tree, P: PartTest>(
     requires workable { IsWorkable machine.old.item }
     requires settled { may_leave (seen_copy machine.old) ≡ false }
     requires brings { brings (seen_copy machine.old) ≡ true }
-    ensures works { ListSteps (P.is_free parts.now) replies (seen_copy machine.old) (seen_copy machine.new) result dirty.old dirty.new
+    ensures works { ListSteps (P.is_free parts.now) replies (seen_copy machine.old) (seen_copy machine.new)
+        result dirty.old dirty.new
         (T.contents tree.old) (T.contents tree.new) (T.fault_count tree.old) (T.fault_count tree.new) }
     ensures workable { IsWorkable machine.new.item }
 {
@@ -80,7 +82,8 @@ fn finish<T: Tree, P: PartTest>(
     requires settled { may_leave (seen_copy machine.old) ≡ false }
     requires inner { brings (seen_copy machine.old) ≡ false }
     requires ended { has_ended (seen_copy machine.old) ≡ true }
-    ensures works { (dirty : List Route) → ListSteps (P.is_free parts.now) replies (seen_copy machine.old) (seen_copy machine.new) result dirty dirty
+    ensures works { (dirty : List Route) → ListSteps (P.is_free parts.now) replies (seen_copy machine.old)
+        (seen_copy machine.new) result dirty dirty
         (T.contents tree.old) (T.contents tree.new) (T.fault_count tree.old) (T.fault_count tree.new) }
     ensures workable { IsWorkable machine.new.item }
 {
@@ -100,7 +103,8 @@ fn work_in_dirty<T: Tree, P: PartTest>(
     requires settled { may_leave (seen_copy machine.old) ≡ false }
     requires inner { brings (seen_copy machine.old) ≡ false }
     requires marked { is_dirty machine.old.stack.levels.inner.copy.names ≡ true }
-    ensures works { ListSteps (P.is_free parts.now) replies (seen_copy machine.old) (seen_copy machine.new) result dirty.old dirty.new
+    ensures works { ListSteps (P.is_free parts.now) replies (seen_copy machine.old) (seen_copy machine.new)
+        result dirty.old dirty.new
         (T.contents tree.old) (T.contents tree.new) (T.fault_count tree.old) (T.fault_count tree.new) }
     ensures workable { IsWorkable machine.new.item }
 {
@@ -124,7 +128,8 @@ fn work_in_clean<T: Tree, P: PartTest>(
     requires inner { brings (seen_copy machine.old) ≡ false }
     requires left { has_ended (seen_copy machine.old) ≡ false }
     requires clean { is_dirty machine.old.stack.levels.inner.copy.names ≡ false }
-    ensures works { ListSteps (P.is_free parts.now) replies (seen_copy machine.old) (seen_copy machine.new) result dirty.old dirty.new
+    ensures works { ListSteps (P.is_free parts.now) replies (seen_copy machine.old) (seen_copy machine.new)
+        result dirty.old dirty.new
         (T.contents tree.old) (T.contents tree.new) (T.fault_count tree.old) (T.fault_count tree.new) }
     ensures workable { IsWorkable machine.new.item }
 {

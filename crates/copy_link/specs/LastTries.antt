@@ -1,4 +1,5 @@
--- The last tries of a copy whose job is to end: its part is removed, if it can be, and the folder's sync is tried.
+-- The last tries of a copy whose job is to end: its part is removed, if it can be, and
+-- the folder's sync is tried.
 use Rattle.std.specs.Prelude.{◌≡◌, ℕ, ◌≤◌, Option, Some, None, Result, Ok, Err}
 use Rattle.tree_trait.specs.declared.calls.TreeError.{TreeError}
 use Rattle.tree_trait.specs.declared.calls.TreeError.TheVariants.{Fault}
@@ -26,20 +27,26 @@ abbrev pub answer_in : Removal → Result (Unit {0}) TreeError
 answer_in Cleaned = Ok tt
 answer_in (Stays e) = Err e
 
--- The removal of the part was tried, and answered as it is told; a fault only where the tree's count has risen.
-pub record RemovalTried (old : LinkCopying) (tried : RemovalStep) (new : LinkCopying) (before after : Option CallLog) (faults faults_after : ℕ) : Type 0 where
+-- The removal of the part was tried, and answered as it is told; a fault only where
+-- the tree's count has risen.
+pub record RemovalTried (old : LinkCopying) (tried : RemovalStep) (new : LinkCopying)
+    (before after : Option CallLog) (faults faults_after : ℕ) : Type 0 where
   pub stands : new ≡ after_try tried.removal old
   pub counted : tried.calls ≡ calls_made_for (answer_in tried.removal)
-  pub answered : IfKnown before (λ log. Performs {A = Unit {0}} log (RemoveFile old.part) (answer_in tried.removal) after)
+  pub answered : IfKnown before (λ log.
+      Performs {A = Unit {0}} log (RemoveFile old.part) (answer_in tried.removal) after)
   pub unknown : before ≡ None → after ≡ None
   pub later : faults ≤ faults_after
   pub fault : answer_in tried.removal ≡ Err Fault → HasRisen faults faults_after
 
--- The folder's sync was tried, whatever it answered: the refusal is told, and a fault only where the tree's count has risen.
-pub record SyncTried (old : LinkCopying) (last : LastStepResult) (new : LinkCopying) (before after : Option CallLog) (faults faults_after : ℕ) : Type 0 where
+-- The folder's sync was tried, whatever it answered: the refusal is told, and a fault only where
+-- the tree's count has risen.
+pub record SyncTried (old : LinkCopying) (last : LastStepResult) (new : LinkCopying)
+    (before after : Option CallLog) (faults faults_after : ℕ) : Type 0 where
   pub did : last.did ≡ Barrier
   pub stands : new ≡ record old { folder = Synced }
-  pub answered : (answer : Result (Unit {0}) TreeError) × (last.calls ≡ calls_made_for answer) × (last.left ≡ refusal_in answer)
+  pub answered : (answer : Result (Unit {0}) TreeError) × (last.calls ≡ calls_made_for answer)
+      × (last.left ≡ refusal_in answer)
       × IfKnown before (λ log. Performs {A = Unit {0}} log (SyncFolder (folder_of old.target)) answer after)
   pub unknown : before ≡ None → after ≡ None
   pub later : faults ≤ faults_after

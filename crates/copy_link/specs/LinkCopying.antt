@@ -1,8 +1,11 @@
--- The order in which a link is copied: what a step may report where the copy stands, and where it stands then.
+-- The order in which a link is copied: what a step may report where the copy stands,
+-- and where it stands then.
 use Rattle.std.specs.Prelude.{◌≡◌, ℕ, Bool, true, false}
 use Rattle.mc_text.specs.Routes.{Route}
 use Rattle.job_reports.specs.declared.report.Did.{Did}
-use Rattle.job_reports.specs.declared.report.Did.TheVariants.{Began, Chunk, Placed, Removed, Made, Set, Kept, Skipped, Cleaned, Barrier, Asked, Merges, Moved, Troubled, Ended}
+use Rattle.job_reports.specs.declared.report.Did.TheVariants.{Began, Chunk, Placed, Removed, Made}
+use Rattle.job_reports.specs.declared.report.Did.TheVariants.{Set, Kept, Skipped, Cleaned, Barrier}
+use Rattle.job_reports.specs.declared.report.Did.TheVariants.{Asked, Merges, Moved, Troubled, Ended}
 use Rattle.copy_file.specs.declared.stage.FolderState.{FolderState}
 use Rattle.copy_file.specs.declared.stage.FolderState.TheVariants.{Synced, Dirty}
 use Rattle.copy_link.specs.declared.stage.Next.{Next}
@@ -19,7 +22,8 @@ pub record LinkPlaces : Type 0 where
 abbrev pub places : Route → Route → Route → LinkPlaces
 places source target part = record { source = source; target = target; part = part }
 
--- the copy of a link, as it stands: its paths, what is to be done next, and whether the target's folder is to be synced
+-- the copy of a link, as it stands: its paths, what is to be done next, and whether the
+-- target's folder is to be synced
 pub record LinkCopying : Type 0 where
   pub source : Route
   pub target : Route
@@ -28,7 +32,8 @@ pub record LinkCopying : Type 0 where
   pub folder : FolderState
 
 abbrev pub copying : LinkPlaces → Stage → FolderState → LinkCopying
-copying p stage folder = record { source = p.source; target = p.target; part = p.part; stage = stage; folder = folder }
+copying p stage folder =
+    record { source = p.source; target = p.target; part = p.part; stage = stage; folder = folder }
 
 -- the part stands
 abbrev pub has_part : Stage → Bool
@@ -76,13 +81,16 @@ is_ready Decided folder = is_dirty folder
 is_ready Left folder = false
 is_ready Again folder = false
 
--- What a step may report, and where the copy stands then. It makes the part, places it, and syncs the folder; a part that isn't
--- placed is removed.
+-- What a step may report, and where the copy stands then. It makes the part, places it, and syncs the
+-- folder; a part that isn't placed is removed.
 abbrev pub Tells : LinkCopying → Did → LinkCopying → Type 0
-Tells c (Began part) new = (c.stage ≡ Make) × (part ≡ c.part) × (new ≡ record c { stage = Place; folder = Dirty })
-Tells c (Placed path) new = (c.stage ≡ Place) × (path ≡ c.target) × (new ≡ record c { stage = Decided; folder = Dirty })
+Tells c (Began part) new =
+    (c.stage ≡ Make) × (part ≡ c.part) × (new ≡ record c { stage = Place; folder = Dirty })
+Tells c (Placed path) new =
+    (c.stage ≡ Place) × (path ≡ c.target) × (new ≡ record c { stage = Decided; folder = Dirty })
 Tells c (Cleaned part) new =
-    (follows : Next) × (c.stage ≡ Clean follows) × (part ≡ c.part) × (new ≡ record c { stage = after_clean follows; folder = Dirty })
+    (follows : Next) × (c.stage ≡ Clean follows) × (part ≡ c.part)
+    × (new ≡ record c { stage = after_clean follows; folder = Dirty })
 Tells c Barrier new = (c.stage ≡ Decided) × (is_dirty c.folder ≡ true) × (new ≡ record c { folder = Synced })
 Tells c (Troubled trouble) new = (trouble.barrier ≡ at_barrier c.stage) × (new ≡ c)
 Tells c (Chunk count) new = ⊥

@@ -1,5 +1,6 @@
 -- What a step of a link's copy does: its report, the copy after it, and its calls of the tree.
-use Rattle.std.specs.Prelude.{◌≡◌, ◌⊎◌, ℕ, ◌<◌, ◌≤◌, ⊤, List, [], ◌∷◌, Option, Some, None, Result, Ok, Err, IfErr, false}
+use Rattle.std.specs.Prelude.{◌≡◌, ◌⊎◌, ℕ, ◌<◌, ◌≤◌, ⊤, List, [], ◌∷◌, Option}
+use Rattle.std.specs.Prelude.{Some, None, Result, Ok, Err, IfErr, false}
 use Rattle.mc_text.specs.Routes.{Route}
 use Rattle.tree_trait.specs.declared.file_system.FileSystem.{FileSystem}
 use Rattle.tree_trait.specs.declared.calls.TreeError.TheVariants as refused
@@ -9,9 +10,12 @@ use Rattle.tree_trait.specs.Change.{CallLog, current, found_node}
 use Rattle.tree_trait.specs.Refusals.{refusal_of}
 use Rattle.tree_trait.specs.Answers.{IfKnown, HasRisen}
 use Rattle.job_reports.specs.declared.report.Cause.{Cause}
-use Rattle.job_reports.specs.declared.report.Cause.TheVariants.{Tree, TargetKind, SpecialSource, TooDeep, PartTaken, TooLong, Unnamed, Changed, Memory}
+use Rattle.job_reports.specs.declared.report.Cause.TheVariants.{Tree, TargetKind, SpecialSource, TooDeep}
+use Rattle.job_reports.specs.declared.report.Cause.TheVariants.{PartTaken, TooLong, Unnamed, Changed, Memory}
 use Rattle.job_reports.specs.declared.report.Did.{Did}
-use Rattle.job_reports.specs.declared.report.Did.TheVariants.{Began, Chunk, Placed, Removed, Made, Set, Kept, Skipped, Cleaned, Barrier, Asked, Merges, Moved, Troubled, Ended}
+use Rattle.job_reports.specs.declared.report.Did.TheVariants.{Began, Chunk, Placed, Removed, Made}
+use Rattle.job_reports.specs.declared.report.Did.TheVariants.{Set, Kept, Skipped, Cleaned, Barrier}
+use Rattle.job_reports.specs.declared.report.Did.TheVariants.{Asked, Merges, Moved, Troubled, Ended}
 use Rattle.job_reports.specs.declared.stop.Stop.{Stop}
 use Rattle.job_reports.specs.CallRuns.{AllDone, RunStops, HasMore}
 use Rattle.job_reports.specs.Paths.{folder_of}
@@ -67,9 +71,11 @@ LinkStops c stage cause path log after = RunStops (next_call (current log) c sta
 
 -- all is done that comes next
 abbrev pub IsDone : LinkCopying → CallLog → Option CallLog → Type 0
-IsDone c log after = IsRead (current log) c.source c.stage × AllDone log (next_call (current log) c c.stage) after
+IsDone c log after =
+    IsRead (current log) c.source c.stage × AllDone log (next_call (current log) c c.stage) after
 
--- A report of work has made the call that came next, and no other; a trouble is the refusal of what came next.
+-- A report of work has made the call that came next, and no other; a trouble is the
+-- refusal of what came next.
 abbrev pub LinkCalls : LinkCopying → Did → CallLog → Option CallLog → Type 0
 LinkCalls c (Troubled trouble) log after = LinkStops c c.stage trouble.cause trouble.path log after
 LinkCalls c (Began part) log after = IsDone c log after
@@ -92,9 +98,11 @@ abbrev pub Falls : Did → LinkCopying → LinkCopying → Type 0
 Falls (Troubled trouble) old new = ⊤
 Falls did old new = steps_left new.stage new.folder < steps_left old.stage old.folder
 
--- A step of a link's copy: what it reports is allowed, the copy is then as it says, it made the calls of the tree that it says,
--- at most one of which changes the tree, and it reports a fault only where the tree's count has risen.
-pub record StepsOn (old new : LinkCopying) (did : Did) (calls : ℕ) (before after : Option CallLog) (faults faults_after : ℕ) : Type 0 where
+-- A step of a link's copy: what it reports is allowed, the copy is then as it says, it made the calls
+-- of the tree that it says, at most one of which changes the tree, and it reports a fault only where
+-- the tree's count has risen.
+pub record StepsOn (old new : LinkCopying) (did : Did) (calls : ℕ) (before after : Option CallLog)
+    (faults faults_after : ℕ) : Type 0 where
   pub tells : Tells old did new
   pub called : IfKnown before (λ log. LinkCalls old did log after)
   pub counted : IfKnown before (λ log. IfKnown after (HasMore log calls))
@@ -107,13 +115,16 @@ pub record StepsOn (old new : LinkCopying) (did : Did) (calls : ℕ) (before aft
 -- the same of a step that says where it left the copy
 abbrev pub MovesOn : LinkCopying → AfterStep → Option CallLog → Option CallLog → ℕ → ℕ → Type 0
 MovesOn old moved before after faults faults_after =
-    StepsOn old (record old { stage = moved.stage; folder = moved.folder }) moved.did moved.calls before after faults faults_after
+    StepsOn old (record old { stage = moved.stage; folder = moved.folder }) moved.did moved.calls before after
+    faults faults_after
 
 -- a trouble leaves the copy where it stood
 abbrev pub moved_by : Stop → Stage → FolderState → AfterStep
-moved_by stop stage folder = record { did = Troubled stop.trouble; calls = stop.calls; stage = stage; folder = folder }
+moved_by stop stage folder =
+    record { did = Troubled stop.trouble; calls = stop.calls; stage = stage; folder = folder }
 
--- a skip reports the source as skipped, or that there is no memory for the report, and then it changes nothing
+-- a skip reports the source as skipped, or that there is no memory for the report,
+-- and then it changes nothing
 abbrev pub Skips : Cause → LinkCopying → Did → LinkCopying → Type 0
 Skips cause old did new =
     ((did ≡ Skipped old.source cause) × (new ≡ record old { stage = skipped_stage old.stage }))
@@ -122,11 +133,13 @@ Skips cause old did new =
 -- the link was read and the part made, or the trouble is one that may come before
 abbrev pub MakeRuns : LinkPlaces → Result Route Stop → CallLog → Option CallLog → Type 0
 MakeRuns p (Ok made) log after =
-    (refusal_of (current log) (ReadLink p.source) ≡ None) × AllDone log (MakeLink p.part (link_text (current log) p.source) ∷ []) after
+    (refusal_of (current log) (ReadLink p.source) ≡ None)
+    × AllDone log (MakeLink p.part (link_text (current log) p.source) ∷ []) after
 MakeRuns p (Err stop) log after =
     (ReadStops (current log) p.source stop.trouble.cause stop.trouble.path × (after ≡ Some log))
     ⊎ ((refusal_of (current log) (ReadLink p.source) ≡ None)
-    × RunStops (MakeLink p.part (link_text (current log) p.source) ∷ []) stop.trouble.cause stop.trouble.path log after)
+    × RunStops (MakeLink p.part (link_text (current log) p.source) ∷ []) stop.trouble.cause
+    stop.trouble.path log after)
 
 -- how many changing calls that made: one, or those until its trouble
 abbrev pub make_calls : Result Route Stop → ℕ
@@ -139,7 +152,8 @@ IfMade p (Ok made) = made ≡ p.part
 IfMade p (Err stop) = stop.trouble.barrier ≡ false
 
 -- What the making of a part comes to, as in `Ran`.
-pub record Makes (p : LinkPlaces) (result : Result Route Stop) (before after : Option CallLog) (faults faults_after : ℕ) : Type 0 where
+pub record Makes (p : LinkPlaces) (result : Result Route Stop) (before after : Option CallLog)
+    (faults faults_after : ℕ) : Type 0 where
   pub runs : IfKnown before (λ log. MakeRuns p result log after)
   pub made : IfMade p result
   pub counted : IfKnown before (λ log. IfKnown after (HasMore log (make_calls result)))

@@ -20,7 +20,8 @@ pub(crate) fn read_text<T: Tree>(
     source: &Path,
 ) -> Result<Text, Trouble>
     ensures known { IfKnown (T.contents tree.old) (λ log. MatchResult result
-        (λ text. (refusal_of (current log) (ReadLink source.now) ≡ None) × (text ≡ link_text (current log) source.now))
+        (λ text. (refusal_of (current log) (ReadLink source.now) ≡ None)
+        × (text ≡ link_text (current log) source.now))
         (λ trouble. ReadStops (current log) source.now trouble.cause trouble.path)) }
     ensures peeks { Peeks result (T.contents tree.old) (T.contents tree.new)
         (T.fault_count tree.old) (T.fault_count tree.new) }

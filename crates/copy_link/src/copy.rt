@@ -3,7 +3,9 @@ ghost use Rattle.std.specs.Prelude.{◌≡◌, Some, None, true};
 ghost use Rattle.mc_text.specs.Routes.{parent_of};
 ghost use Rattle.job_reports.specs.Paths.{folder_of};
 ghost use Rattle.copy_link.specs.LastTries.{RemovalTried, SyncTried};
-ghost use Rattle.copy_link.specs.LinkCopying.{at_barrier, copying, has_part, is_dirty, is_ready, is_removable, places, skipped_stage as skipped_to, taken_anew as stage_anew};
+ghost use Rattle.copy_link.specs.LinkCopying.{at_barrier, copying, has_part, is_dirty, is_ready};
+ghost use Rattle.copy_link.specs.LinkCopying.{is_removable, places, skipped_stage as skipped_to};
+ghost use Rattle.copy_link.specs.LinkCopying.{taken_anew as stage_anew};
 ghost use Rattle.copy_link.specs.LinkSteps.{Skips, StepsOn};
 
 use crate::places::Places;
@@ -89,7 +91,8 @@ impl LinkCopy {
         self.places.folder()
     }
 
-    /// Whether the folder has a change of names that no sync has brought onto the disk, as far as this copy goes.
+    /// Whether the folder has a change of names that no sync has brought onto the disk,
+    /// as far as this copy goes.
     pub fn is_dirty(&self) -> bool
         ensures { result ≡ is_dirty self.now.folder }
     {

@@ -1,4 +1,5 @@
-//! The copy of a link: a link with the source's text is made at a part beside the target and renamed, and the folder is synced.
+//! The copy of a link: a link with the source's text is made at a part beside the target and renamed,
+//! and the folder is synced.
 #![tactic(auto)]
 
 mod calls;

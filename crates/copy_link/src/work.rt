@@ -59,7 +59,8 @@ fn troubled(stop: Stop, stage: Stage, folder: FolderState) -> AfterStep
 }
 
 fn make<T: Tree>(alloc: Global, tree: &mut T, places: &Places, folder: FolderState) -> AfterStep
-    ensures { MovesOn (copying places.now Stage.Make folder) result (T.contents tree.old) (T.contents tree.new)
+    ensures { MovesOn (copying places.now Stage.Make folder) result (T.contents tree.old)
+        (T.contents tree.new)
         (T.fault_count tree.old) (T.fault_count tree.new) }
 {
     match read_and_make(alloc, tree, places) {
@@ -93,7 +94,8 @@ fn read_and_make<T: Tree>(alloc: Global, tree: &mut T, places: &Places) -> Resul
 
 /// A link needs no sync of its own before it is renamed: an image has it with its text, or has it not.
 fn place<T: Tree>(alloc: Global, tree: &mut T, places: &Places, folder: FolderState) -> AfterStep
-    ensures { MovesOn (copying places.now Stage.Place folder) result (T.contents tree.old) (T.contents tree.new)
+    ensures { MovesOn (copying places.now Stage.Place folder) result (T.contents tree.old)
+        (T.contents tree.new)
         (T.fault_count tree.old) (T.fault_count tree.new) }
 {
     let Ok(placed) = places.target().copy(alloc) else {
@@ -117,7 +119,8 @@ fn clean<T: Tree>(
     next: Next,
     folder: FolderState,
 ) -> AfterStep
-    ensures { MovesOn (copying places.now (Stage.Clean next) folder) result (T.contents tree.old) (T.contents tree.new)
+    ensures { MovesOn (copying places.now (Stage.Clean next) folder) result (T.contents tree.old)
+        (T.contents tree.new)
         (T.fault_count tree.old) (T.fault_count tree.new) }
 {
     let stage = Stage::Clean { next };
@@ -146,7 +149,8 @@ fn after_clean(next: Next) -> Stage
 
 fn sync<T: Tree>(alloc: Global, tree: &mut T, places: &Places, folder: FolderState) -> AfterStep
     requires { is_ready Stage.Decided folder ≡ true }
-    ensures { MovesOn (copying places.now Stage.Decided folder) result (T.contents tree.old) (T.contents tree.new)
+    ensures { MovesOn (copying places.now Stage.Decided folder) result (T.contents tree.old)
+        (T.contents tree.new)
         (T.fault_count tree.old) (T.fault_count tree.new) }
 {
     match sync_names(alloc, tree, places.folder()) {

@@ -1,6 +1,7 @@
--- A live job: what it does, how far it is, and whether it goes on; what a step of it may report, and what that says of the
--- tree's calls.
-use Rattle.std.specs.Prelude.{◌≡◌, ◌⊎◌, ℕ, ⊤, Bool, true, false, not, ◌&&◌, nat_le, is_some, List, [], ◌∷◌, Option, Some, None, if◌then◌else◌, IsOk}
+-- A live job: what it does, how far it is, and whether it goes on; what a step of it may report, and what
+-- that says of the tree's calls.
+use Rattle.std.specs.Prelude.{◌≡◌, ◌⊎◌, ℕ, ⊤, Bool, true, false, not, ◌&&◌, nat_le, is_some}
+use Rattle.std.specs.Prelude.{List, [], ◌∷◌, Option, Some, None, if◌then◌else◌, IsOk}
 use Rattle.mc_text.specs.Routes.{Route, parent_of, same_path}
 use Rattle.tree_trait.specs.Change.{CallLog}
 use Rattle.job_reports.specs.declared.report.Cause.{Cause}
@@ -13,7 +14,9 @@ use Rattle.job_reports.specs.declared.report.Trouble.{Trouble}
 use Rattle.job_reports.specs.declared.report.Ending.{Ending}
 use Rattle.job_reports.specs.declared.report.Ending.TheVariants.{Aborted}
 use Rattle.job_reports.specs.declared.report.Did.{Did}
-use Rattle.job_reports.specs.declared.report.Did.TheVariants.{Began, Chunk, Placed, Removed, Made, Set, Kept, Skipped, Cleaned, Barrier, Asked, Merges, Moved, Troubled, Ended}
+use Rattle.job_reports.specs.declared.report.Did.TheVariants.{Began, Chunk, Placed, Removed, Made}
+use Rattle.job_reports.specs.declared.report.Did.TheVariants.{Set, Kept, Skipped, Cleaned, Barrier}
+use Rattle.job_reports.specs.declared.report.Did.TheVariants.{Asked, Merges, Moved, Troubled, Ended}
 use Rattle.job_reports.specs.Jobs.{is_link_text}
 use Rattle.job_reports.specs.Stops.{out_of_memory_at}
 use Rattle.job_reports.specs.declared.job.Job.{Job}
@@ -21,7 +24,8 @@ use Rattle.job_reports.specs.declared.job.Job.TheVariants as plan
 use Rattle.job_reports.specs.declared.row.JobKind.{JobKind}
 use Rattle.job_reports.specs.declared.row.JobKind.TheVariants as kind
 use Rattle.job_reports.specs.declared.answer.Answer.{Answer}
-use Rattle.job_reports.specs.declared.answer.Answer.TheVariants.{Yes, No, All, Update, Nothing, SizeDiffers, Retry, Skip, SkipAll, Abort}
+use Rattle.job_reports.specs.declared.answer.Answer.TheVariants.{Yes, No, All, Update, Nothing}
+use Rattle.job_reports.specs.declared.answer.Answer.TheVariants.{SizeDiffers, Retry, Skip, SkipAll, Abort}
 use Rattle.make_job.specs.declared.making.MakingStage.TheVariants as making
 use Rattle.make_job.specs.declared.new_thing.NewThing.{NewThing}
 use Rattle.make_job.specs.declared.new_thing.NewThing.TheVariants as thing
@@ -29,7 +33,8 @@ use Rattle.copy_move.specs.declared.work.Work.{Work}
 use Rattle.copy_move.specs.declared.work.Work.TheVariants.{Copy, Delete, Make, Move, SetMode, RemoveEmptied}
 use Rattle.copy_move.specs.declared.run.Halt.{Halt}
 use Rattle.copy_move.specs.declared.run.Course.{Course}
-use Rattle.copy_move.specs.declared.run.Course.TheVariants.{GoesOn, Asking, InTrouble, OwedSyncFailed, Skips, Ends}
+use Rattle.copy_move.specs.declared.run.Course.TheVariants.{GoesOn, Asking, InTrouble}
+use Rattle.copy_move.specs.declared.run.Course.TheVariants.{OwedSyncFailed, Skips, Ends}
 use Rattle.delete_job.specs.Standing.{after_item}
 use Rattle.delete_job.specs.Standing as standing
 use Rattle.delete_job.specs.Deletions.{DeletionCalls, IsAtStage, LastCalls, begun_deletion}
@@ -55,7 +60,8 @@ use Rattle.mode_job.specs.Settings.{setting}
 use Rattle.mode_job.specs.Settings as settings
 use Rattle.mode_job.specs.SettingSteps.{SettingCalls}
 
--- a live job: its number, what it does, whether it goes on, and what was answered to its questions and troubles so far
+-- a live job: its number, what it does, whether it goes on, and what was answered to its
+-- questions and troubles so far
 pub record Running : Type 0 where
   pub id : ℕ
   pub work : Work
@@ -86,25 +92,31 @@ removes_emptied path = RemoveEmptied (removals.begun_removal path)
 abbrev pub sets : Route → ℕ → Work
 sets path mode = SetMode (setting path mode Give)
 
--- The work of the plan of one source. The root, which no folder holds, is neither copied, moved, removed, made nor given a mode. Nothing is moved to where
--- it is. A mode has twelve bits.
+-- The work of the plan of one source. The root, which no folder holds, is neither copied, moved, removed,
+-- made nor given a mode. Nothing is moved to where it is. A mode has twelve bits.
 abbrev pub first_work : ℕ → Job → Option Work
 first_work id (plan.Delete []) = None
 first_work id (plan.Delete (path ∷ [])) = if is_some (parent_of path) then Some (deletes path) else None
 first_work id (plan.Delete (path ∷ more ∷ paths)) = None
 first_work id (plan.Copy []) = None
-first_work id (plan.Copy (pair ∷ [])) = if is_some (parent_of pair.source) && is_some (parent_of pair.target) then Some (copies id pair) else None
+first_work id (plan.Copy (pair ∷ [])) =
+    if is_some (parent_of pair.source) && is_some (parent_of pair.target) then Some (copies id pair) else None
 first_work id (plan.Copy (pair ∷ more ∷ pairs)) = None
 first_work id (plan.Move []) = None
 first_work id (plan.Move (pair ∷ [])) =
-    if (is_some (parent_of pair.source) && is_some (parent_of pair.target)) && not (same_path pair.source pair.target) then Some (moves pair) else None
+    if (is_some (parent_of pair.source) && is_some (parent_of pair.target))
+    && not (same_path pair.source pair.target) then Some (moves pair) else None
 first_work id (plan.Move (pair ∷ more ∷ pairs)) = None
-first_work id (plan.MakeFolder path) = if is_some (parent_of path) then Some (makes thing.Folder path) else None
-first_work id (plan.MakeLink path text) = if is_some (parent_of path) && is_link_text text then Some (makes (thing.Link text) path) else None
+first_work id (plan.MakeFolder path) =
+    if is_some (parent_of path) then Some (makes thing.Folder path) else None
+first_work id (plan.MakeLink path text) =
+    if is_some (parent_of path) && is_link_text text then Some (makes (thing.Link text) path) else None
 first_work id (plan.SetMode [] mode) = None
-first_work id (plan.SetMode (path ∷ []) mode) = if is_some (parent_of path) && nat_le mode 0o7777 then Some (sets path mode) else None
+first_work id (plan.SetMode (path ∷ []) mode) =
+    if is_some (parent_of path) && nat_le mode 0o7777 then Some (sets path mode) else None
 first_work id (plan.SetMode (path ∷ more ∷ paths) mode) = None
-first_work id (plan.RemoveEmptied path) = if is_some (parent_of path) then Some (removes_emptied path) else None
+first_work id (plan.RemoveEmptied path) =
+    if is_some (parent_of path) then Some (removes_emptied path) else None
 
 -- the work with which a job begins: that of the first of its sources
 abbrev pub begun_work : ℕ → List Job → Option Work
@@ -146,15 +158,19 @@ is_fresh (Move m) = movings.is_fresh m.stage
 is_fresh (SetMode s) = settings.is_fresh s.stage
 is_fresh (RemoveEmptied r) = removals.is_fresh r.stage
 
--- the work once what stands at this path was left as it is: something of what is copied or deleted, the thing that is not moved, or not made, the one that keeps
--- its mode, or the emptied folder that stays
+-- the work once what stands at this path was left as it is: something of what is copied or deleted, the
+-- thing that is not moved, or not made, the one that keeps its mode, or the emptied folder that stays
 abbrev pub PassesOver : Work → Route → Work → Type 0
 PassesOver (Copy c) path (Copy new) = trees.Passes c path new
 PassesOver (Delete d) path (Delete new) = IsAtStage d (after_item d.path path d.stage) new
-PassesOver (Make m) path (Make new) = (path ≡ m.path) × (new ≡ record m { stage = makings.skipped_stage m.stage })
-PassesOver (Move m) path (Move new) = (path ≡ m.pair.source) × (new ≡ record m { stage = movings.skipped_stage m.stage })
-PassesOver (SetMode s) path (SetMode new) = (path ≡ s.path) × (new ≡ record s { stage = settings.skipped_stage s.stage })
-PassesOver (RemoveEmptied r) path (RemoveEmptied new) = (path ≡ r.path) × (new ≡ record r { stage = removals.skipped_stage r.stage })
+PassesOver (Make m) path (Make new) =
+    (path ≡ m.path) × (new ≡ record m { stage = makings.skipped_stage m.stage })
+PassesOver (Move m) path (Move new) =
+    (path ≡ m.pair.source) × (new ≡ record m { stage = movings.skipped_stage m.stage })
+PassesOver (SetMode s) path (SetMode new) =
+    (path ≡ s.path) × (new ≡ record s { stage = settings.skipped_stage s.stage })
+PassesOver (RemoveEmptied r) path (RemoveEmptied new) =
+    (path ≡ r.path) × (new ≡ record r { stage = removals.skipped_stage r.stage })
 PassesOver old path new = ⊥
 
 -- the work taken up once more after a trouble; all but a copy try their call again
@@ -252,24 +268,30 @@ course_after (Cleaned part) = GoesOn
 course_after Barrier = GoesOn
 course_after (Ended ending part) = GoesOn
 
--- What a step may report of a job that goes so, and what the job is then. What is to be skipped is reported with the
--- cause of its trouble, or there is no memory for the report; it doesn't stand at a barrier.
+-- What a step may report of a job that goes so, and what the job is then. What is to be skipped is reported
+-- with the cause of its trouble, or there is no memory for the report; it doesn't stand at a barrier.
 abbrev pub TellsOn : Course → Running → Did → Running → Type 0
-TellsOn GoesOn job did new = (work : Work) × WorkTells job.replies job.work did work × (new ≡ record job { work = work; course = course_after did })
+TellsOn GoesOn job did new = (work : Work) × WorkTells job.replies job.work did work
+    × (new ≡ record job { work = work; course = course_after did })
 TellsOn (InTrouble halt) job did new = ⊥
 TellsOn (OwedSyncFailed cause) job did new = ⊥
 TellsOn Asking job did new = ⊥
 TellsOn (Skips cause) job did new =
-    ((path : Route) × (work : Work) × (did ≡ Skipped path cause) × PassesOver job.work path work × (new ≡ record job { work = work; course = GoesOn }))
-    ⊎ ((at_barrier job.work ≡ false) × (did ≡ Troubled (out_of_memory_at false)) × (new ≡ record job { course = InTrouble unreported_skip }))
-TellsOn (Ends ending) job did new = (work : Work) × WorkWinds ending job.work did work × (new ≡ record job { work = work })
+    ((path : Route) × (work : Work) × (did ≡ Skipped path cause) × PassesOver job.work path work
+    × (new ≡ record job { work = work; course = GoesOn }))
+    ⊎ ((at_barrier job.work ≡ false) × (did ≡ Troubled (out_of_memory_at false))
+    × (new ≡ record job { course = InTrouble unreported_skip }))
+TellsOn (Ends ending) job did new =
+    (work : Work) × WorkWinds ending job.work did work × (new ≡ record job { work = work })
 
 abbrev pub JobTells : Running → Did → Running → Type 0
 JobTells job did new = TellsOn job.course job did new
 
--- what a step of the work says of the tree's calls, where this was answered; a part may have the paths that no other job claims
+-- what a step of the work says of the tree's calls, where this was answered; a part may have the paths
+-- that no other job claims
 abbrev pub WorkCalls : (Route → Type 0) → Replies → Work → Did → Work → CallLog → Option CallLog → Type 0
-WorkCalls unclaimed replies (Copy c) did (Copy new) log after = trees.Calls unclaimed replies c did new log after
+WorkCalls unclaimed replies (Copy c) did (Copy new) log after =
+    trees.Calls unclaimed replies c did new log after
 WorkCalls unclaimed replies (Copy c) did (Delete new) log after = ⊥
 WorkCalls unclaimed replies (Copy c) did (Make new) log after = ⊥
 WorkCalls unclaimed replies (Copy c) did (Move new) log after = ⊥
@@ -292,7 +314,8 @@ WorkLastCalls (RemoveEmptied r) did log after = LastRemovalCalls r did log after
 
 -- What a step of a job says of the tree's calls. The report of a skip makes none.
 abbrev pub CallsOn : (Route → Type 0) → Course → Running → Did → Running → CallLog → Option CallLog → Type 0
-CallsOn unclaimed GoesOn job did new log after = WorkCalls unclaimed job.replies job.work did new.work log after
+CallsOn unclaimed GoesOn job did new log after =
+    WorkCalls unclaimed job.replies job.work did new.work log after
 CallsOn unclaimed (InTrouble halt) job did new log after = ⊥
 CallsOn unclaimed (OwedSyncFailed cause) job did new log after = ⊥
 CallsOn unclaimed Asking job did new log after = ⊥
@@ -320,7 +343,8 @@ answered_on Asking Skip job = job
 answered_on Asking SkipAll job = job
 answered_on (InTrouble halt) Retry job = record job { work = taken_anew job.work; course = GoesOn }
 answered_on (InTrouble halt) Skip job = record job { course = Skips halt.cause }
-answered_on (InTrouble halt) SkipAll job = record job { replies = with_skips halt.cause job.replies; course = Skips halt.cause }
+answered_on (InTrouble halt) SkipAll job =
+    record job { replies = with_skips halt.cause job.replies; course = Skips halt.cause }
 answered_on (InTrouble halt) Abort job = record job { course = Ends Aborted }
 answered_on (InTrouble halt) Yes job = job
 answered_on (InTrouble halt) No job = job
@@ -372,8 +396,8 @@ waiting_on GoesOn = None
 waiting_on (Skips cause) = None
 waiting_on (Ends ending) = None
 
--- What the job waits with can be answered so: a question by what it offers, a trouble by a retry or a skip, but at a barrier nothing is passed over; each by the end
--- of the job.
+-- What the job waits with can be answered so: a question by what it offers, a trouble by a retry or a skip,
+-- but at a barrier nothing is passed over; each by the end of the job.
 pub record MayAnswer (job : Running) (answer : Answer) : Type 0 where
   pub waits : waits_on job.course ≡ true
   pub fits : IsOk (answers.answer_result (waiting_on job.course) answer)

@@ -11,13 +11,15 @@ use Rattle.delete_job.specs.Deletions.{Deleting, left_in}
 use Rattle.copy_move.specs.declared.work.Work.{Work}
 use Rattle.copy_move.specs.declared.work.Work.TheVariants.{Copy, Delete, Make, Move, SetMode, RemoveEmptied}
 use Rattle.copy_move.specs.declared.run.Course.{Course}
-use Rattle.copy_move.specs.declared.run.Course.TheVariants.{GoesOn, Asking, InTrouble, OwedSyncFailed, Skips, Ends}
+use Rattle.copy_move.specs.declared.run.Course.TheVariants.{GoesOn, Asking, InTrouble}
+use Rattle.copy_move.specs.declared.run.Course.TheVariants.{OwedSyncFailed, Skips, Ends}
 use Rattle.copy_move.specs.Jobs.{Running}
 use Rattle.copy_job.specs.Ranks as tree
 use Rattle.mode_job.specs.declared.setting.Stage.{Stage as SettingStage}
 use Rattle.mode_job.specs.declared.setting.Stage.TheVariants as setting
 
--- of a deletion that goes on: the things that are left, and its end; the folders that are to be synced are counted apart
+-- of a deletion that goes on: the things that are left, and its end; the folders that are to be
+-- synced are counted apart
 abbrev pub deletion_rank : Deleting → ℕ
 deletion_rank d = left_in d + 2
 
@@ -77,7 +79,8 @@ last_setting_steps setting.Give = 1
 last_setting_steps setting.Sync = 2
 last_setting_steps setting.Done = 1
 
--- of a job that copies those of its copy, and the end; a trouble may leave it as many last steps as it had steps, so there is one more
+-- of a job that copies those of its copy, and the end; a trouble may leave it as many last steps as it had
+-- steps, so there is one more
 abbrev pub work_rank : Work → ℕ
 work_rank (Copy c) = tree.rank c.at + 2
 work_rank (Delete d) = deletion_rank d
@@ -126,7 +129,8 @@ tries_left (OwedSyncFailed cause) work dirty = length dirty
 tries_left Asking work dirty = length dirty
 tries_left (Skips cause) work dirty = length dirty
 
--- The same where folders are dirty: a job may have to sync each of them, and to try each in its last steps. A change adds one, and a renaming two.
+-- The same where folders are dirty: a job may have to sync each of them, and to try each in its last steps.
+-- A change adds one, and a renaming two.
 abbrev pub rank_at : List Route → Course → Work → ℕ
 rank_at dirty course work = 3 * rank_on course work + (length dirty + tries_left course work dirty)
 

@@ -1,5 +1,6 @@
--- Folders in which jobs changed names, and things that were given a mode, which no sync has brought onto the disk yet: what jobs leave
--- there, and how a later job syncs them before it changes anything there, or on a mount that begins below it.
+-- Folders in which jobs changed names, and things that were given a mode, which no sync has brought onto
+-- the disk yet: what jobs leave there, and how a later job syncs them before it changes anything there, or
+-- on a mount that begins below it.
 use Rattle.std.specs.Prelude.{◌≡◌, ◌⊎◌, ℕ, Bool, true, false, ◌||◌, List, [], ◌∷◌, Option, Some, None}
 use Rattle.std.specs.Option.{option_map_or}
 use Rattle.mc_text.specs.Routes.{Route, is_prefix, same_path}
@@ -30,7 +31,8 @@ use Rattle.emptied_job.specs.Removals as removals
 use Rattle.mode_job.specs.ModeSettings.{SettingLeaves}
 use Rattle.mode_job.specs.Settings as settings
 
--- the folder that holds what a job places, removes, or gives a mode; of a move that of the target, which a renaming finds on the mount of the other
+-- the folder that holds what a job places, removes, or gives a mode; of a move that of the target, which a
+-- renaming finds on the mount of the other
 abbrev pub changed_folder : Work → Route
 changed_folder (Copy c) = folder_of c.top.target
 changed_folder (Delete d) = folder_of d.path
@@ -39,13 +41,14 @@ changed_folder (Move m) = folder_of m.pair.target
 changed_folder (SetMode s) = folder_of s.path
 changed_folder (RemoveEmptied r) = folder_of r.path
 
--- a folder in which a job may change names: of a deletion also the thing itself, and what lies in it, and so of the target of a copy, and of both paths of a
--- move; or the thing to which a job gives a mode
+-- a folder in which a job may change names: of a deletion also the thing itself, and what lies in it, and
+-- so of the target of a copy, and of both paths of a move; or the thing to which a job gives a mode
 abbrev pub is_own : Work → Route → Bool
 is_own (Copy c) kept = tree.is_own c kept
 is_own (Delete d) kept = is_of (folder_of d.path) d.path kept
 is_own (Make m) kept = same_path kept (folder_of m.path)
-is_own (Move m) kept = is_of (folder_of m.pair.source) m.pair.source kept || is_of (folder_of m.pair.target) m.pair.target kept
+is_own (Move m) kept =
+    is_of (folder_of m.pair.source) m.pair.source kept || is_of (folder_of m.pair.target) m.pair.target kept
 is_own (SetMode s) kept = same_path kept s.path
 is_own (RemoveEmptied r) kept = same_path kept (folder_of r.path)
 
@@ -58,8 +61,9 @@ left_folder (Move m) = folder_of m.pair.source
 left_folder (SetMode s) = folder_of s.path
 left_folder (RemoveEmptied r) = folder_of r.path
 
--- What is dirty here is owed on whatever mount it lies: at the thing that is removed or moved, or in it; and before a mode is set all is, since the
--- mode of a folder may bar the way to what lies in it. Where something is copied to nothing stands yet.
+-- What is dirty here is owed on whatever mount it lies: at the thing that is removed or moved, or in it;
+-- and before a mode is set all is, since the mode of a folder may bar the way to what lies in it. Where
+-- something is copied to nothing stands yet.
 abbrev pub is_owed_anywhere : Work → Route → Bool
 is_owed_anywhere (Copy c) kept = false
 is_owed_anywhere (Delete d) kept = is_prefix d.path kept
@@ -79,28 +83,35 @@ moved_thing (RemoveEmptied r) = None
 
 -- it is a folder (where nothing stands there this says so, too, and then nothing is moved)
 abbrev pub moves_folder : FileSystem → Work → Bool
-moves_folder s work = option_map_or (λ source. is_folder (node s (found_node s source))) (moved_thing work) false
+moves_folder s work =
+    option_map_or (λ source. is_folder (node s (found_node s source))) (moved_thing work) false
 
--- the folder of a new thing, or a thing that is given a mode, joins the dirty ones with its first change, and leaves them with its sync
+-- the folder of a new thing, or a thing that is given a mode, joins the dirty ones with its first change,
+-- and leaves them with its sync
 abbrev pub with_change : Bool → Bool → Route → List Route → List Route
 with_change was now folder dirty = folders.with_change was now folder dirty
 
 -- what a step of a job's own work makes of the dirty folders
 abbrev pub WorkLeaves : Work → Did → Work → List Route → List Route → Option CallLog → Option CallLog → Type 0
 WorkLeaves (Copy c) did (Copy new) dirty dirty_after before after = ChangesOwn c did dirty dirty_after
-WorkLeaves (Delete d) did (Delete new) dirty dirty_after before after = DeletionLeaves d did dirty dirty_after before after
+WorkLeaves (Delete d) did (Delete new) dirty dirty_after before after =
+    DeletionLeaves d did dirty dirty_after before after
 WorkLeaves (Make m) did (Make new) dirty dirty_after before after =
     dirty_after ≡ with_change (makings.is_dirty m.stage) (makings.is_dirty new.stage) (folder_of m.path) dirty
-WorkLeaves (Move m) did (Move new) dirty dirty_after before after = dirty_after ≡ with_moves m.stage new.stage m.pair dirty
+WorkLeaves (Move m) did (Move new) dirty dirty_after before after =
+    dirty_after ≡ with_moves m.stage new.stage m.pair dirty
 WorkLeaves (SetMode s) did (SetMode new) dirty dirty_after before after =
     dirty_after ≡ with_change (settings.is_dirty s.stage) (settings.is_dirty new.stage) s.path dirty
 WorkLeaves (RemoveEmptied r) did (RemoveEmptied new) dirty dirty_after before after =
-    dirty_after ≡ with_change (removals.is_dirty r.stage) (removals.is_dirty new.stage) (folder_of r.path) dirty
+    dirty_after ≡ with_change (removals.is_dirty r.stage) (removals.is_dirty new.stage)
+    (folder_of r.path) dirty
 WorkLeaves old did new dirty dirty_after before after = ⊥
 
--- what a last step tells of the folder, or the thing, that it tried: the refusal of its sync, if that was in vain
+-- what a last step tells of the folder, or the thing, that it tried: the refusal of its
+-- sync, if that was in vain
 abbrev pub TellsFolder : Work → Did → Option TreeError → Route → CallLog → Option CallLog → Type 0
-TellsFolder (Copy c) did left folder log after = TellsTreeTried (tree.part_of c.at.item) did left folder log after
+TellsFolder (Copy c) did left folder log after =
+    TellsTreeTried (tree.part_of c.at.item) did left folder log after
 TellsFolder (Delete d) did left folder log after = TellsTried did left folder log after
 TellsFolder (Make m) did left folder log after = MakingLeaves m did left log after
 TellsFolder (Move m) did left folder log after = (folder ≡ owed_folder m) × MovingLeaves m did left log after
@@ -120,11 +131,13 @@ abbrev pub LiesOff : FileSystem → Route → Route → Type 0
 LiesOff s [] kept = LiesApart s [] kept
 LiesOff s (name ∷ up) kept = LiesApart s (name ∷ up) kept × LiesOff s up kept
 
--- What is dirty isn't owed by a job before its first change: it was removed; or it isn't owed on any mount, and lies on another one than the folders
--- of what the job places, moves or removes, and than each on the way to them, since a folder on the way may be one that was moved there.
+-- What is dirty isn't owed by a job before its first change: it was removed; or it isn't owed on any mount,
+-- and lies on another one than the folders of what the job places, moves or removes, and than each on the
+-- way to them, since a folder on the way may be one that was moved there.
 abbrev pub IsElsewhere : FileSystem → Work → Route → Type 0
 IsElsewhere s work kept =
-    (refusal_of s (Stat kept) ≡ Some Missing) ⊎ ((is_owed_anywhere work kept ≡ false) × LiesOff s (changed_folder work) kept × LiesOff s (left_folder work) kept)
+    (refusal_of s (Stat kept) ≡ Some Missing) ⊎ ((is_owed_anywhere work kept ≡ false)
+    × LiesOff s (changed_folder work) kept × LiesOff s (left_folder work) kept)
 
 -- nothing that is dirty is owed by a job before its first change
 abbrev pub NoneOwed : FileSystem → Work → List Route → Type 0

@@ -1,5 +1,6 @@
--- What a history tells of its jobs: the live one, but for where the walk of a deletion or of a copy stands, with the size and the mode that a file was
--- said to have and how many of its bytes were copied. Histories stand newest first here.
+-- What a history tells of its jobs: the live one, but for where the walk of a deletion or of a copy stands,
+-- with the size and the mode that a file was said to have and how many of its bytes were copied. Histories
+-- stand newest first here.
 use Rattle.std.specs.Prelude.{◌≡◌, ◌⊎◌, ℕ, Bool, true, false, ◌&&◌, Option, Some, None, if◌then◌else◌}
 use Rattle.std.specs.Option.{option_map}
 use Rattle.mc_text.specs.Routes.{Route}
@@ -8,7 +9,9 @@ use Rattle.job_reports.specs.declared.report.Trouble.{Trouble}
 use Rattle.job_reports.specs.Jobs.{is_workable}
 use Rattle.job_reports.specs.declared.report.Ending.TheVariants.{Finished, NoMemory}
 use Rattle.job_reports.specs.declared.report.Did.{Did}
-use Rattle.job_reports.specs.declared.report.Did.TheVariants.{Began, Chunk, Placed, Removed, Made, Set, Kept, Skipped, Cleaned, Barrier, Asked, Merges, Moved, Troubled, Ended}
+use Rattle.job_reports.specs.declared.report.Did.TheVariants.{Began, Chunk, Placed, Removed, Made}
+use Rattle.job_reports.specs.declared.report.Did.TheVariants.{Set, Kept, Skipped, Cleaned, Barrier}
+use Rattle.job_reports.specs.declared.report.Did.TheVariants.{Asked, Merges, Moved, Troubled, Ended}
 use Rattle.job_answers.specs.Decisions.{no_replies}
 use Rattle.tree_walk.specs.Places.{unopened_walk}
 use Rattle.delete_job.specs.declared.deletion.Depth.TheVariants.{Top}
@@ -29,7 +32,8 @@ use Rattle.mode_job.specs.declared.setting.Stage.TheVariants as setting
 use Rattle.mode_job.specs.Settings as settings
 use Rattle.copy_move.specs.TreeCopies as trees
 use Rattle.copy_job.specs.Standing.{SubtreeCopying}
-use Rattle.copy_move.specs.Jobs.{Running, JobTells, closed_job, first_work, halt_of, is_fresh, part_of, waits_on}
+use Rattle.copy_move.specs.Jobs.{Running, JobTells, closed_job, first_work}
+use Rattle.copy_move.specs.Jobs.{halt_of, is_fresh, part_of, waits_on}
 
 -- the work of the job with this number
 abbrev pub work_told : ℕ → Work → Work
@@ -89,7 +93,8 @@ moved_work (Move m) = Move (record m { stage = moving.SyncTarget })
 moved_work (SetMode s) = SetMode s
 moved_work (RemoveEmptied r) = RemoveEmptied r
 
--- the work once its folder was merged with that at its target: what lies in it are sources of their own then. Of a copy the history tells the same as before.
+-- the work once its folder was merged with that at its target: what lies in it are sources of their own
+-- then. Of a copy the history tells the same as before.
 abbrev pub merged_work : Work → Work
 merged_work (Copy c) = Copy c
 merged_work (Delete d) = Delete d
@@ -138,8 +143,9 @@ cleaned_work course (Move m) = Move m
 cleaned_work course (SetMode s) = SetMode s
 cleaned_work course (RemoveEmptied r) = RemoveEmptied r
 
--- The work once a folder, or the thing itself, was synced, or that was tried. A deletion and a copy stand where they stood.
--- The sync of what an ended job left dirty comes before the first change, and leaves the work as it is.
+-- The work once a folder, or the thing itself, was synced, or that was tried. A deletion and a copy
+-- stand where they stood. The sync of what an ended job left dirty comes before the first change, and
+-- leaves the work as it is.
 abbrev pub synced_work : Work → Work
 synced_work (Copy c) = Copy c
 synced_work (Delete d) = Delete d
@@ -150,7 +156,8 @@ synced_work (RemoveEmptied r) = RemoveEmptied (record r { stage = removals.after
 
 -- a trouble at a barrier before the first change is that of what an ended job left dirty
 abbrev pub course_told : Work → Trouble → Course
-course_told work trouble = if is_fresh work && trouble.barrier then OwedSyncFailed trouble.cause else InTrouble (halt_of trouble)
+course_told work trouble =
+    if is_fresh work && trouble.barrier then OwedSyncFailed trouble.cause else InTrouble (halt_of trouble)
 
 -- the job after a step
 abbrev pub after_step : Did → Running → Option Running
@@ -174,9 +181,11 @@ after_step (Ended ending part) job = None
 abbrev pub running : ℕ → Work → Running
 running id work = record { id = id; work = work; course = GoesOn; replies = no_replies }
 
--- The job as it takes up this work, its next source's: what was to be skipped of all that meets the same goes on to be, and what was answered for all items goes on to hold.
+-- The job as it takes up this work, its next source's: what was to be skipped of all that meets the same
+-- goes on to be, and what was answered for all items goes on to hold.
 abbrev pub with_next : Running → Work → Running
-with_next job work = record { id = job.id; work = work; course = GoesOn; replies = record job.replies { item = None } }
+with_next job work =
+    record { id = job.id; work = work; course = GoesOn; replies = record job.replies { item = None } }
 
 -- the job goes on with its next source, of which this is the plan
 abbrev pub turned_job : Job → Running → Option Running
@@ -190,7 +199,8 @@ if_closed false job = job
 abbrev pub Reports : Running → Did → Type 0
 Reports job did = (old : Running) × (new : Running) × (told_job old ≡ job) × JobTells old did new
 
--- a job goes on with a next source where some job of which the history tells this much may report that it is finished
+-- a job goes on with a next source where some job of which the history tells this much may
+-- report that it is finished
 abbrev pub MayTurn : Running → Job → Type 0
 MayTurn job plan = (job.course ≡ GoesOn) × Reports job (Ended Finished None) × (is_workable plan ≡ true)
 
@@ -198,10 +208,12 @@ MayTurn job plan = (job.course ≡ GoesOn) × Reports job (Ended Finished None) 
 abbrev pub EndsWithoutMemory : Running → Did → Type 0
 EndsWithoutMemory job did = (waits_on job.course ≡ false) × (did ≡ Ended NoMemory (part_of job.work))
 
--- a job that has changed nothing yet may report the sync of what an ended job left dirty, or its trouble at a barrier
+-- a job that has changed nothing yet may report the sync of what an ended job left dirty, or
+-- its trouble at a barrier
 abbrev pub ReportsSync : Running → Did → Type 0
 ReportsSync job did =
-    (job.course ≡ GoesOn) × (is_fresh job.work ≡ true) × ((did ≡ Barrier) ⊎ ((trouble : Trouble) × (did ≡ Troubled trouble) × (trouble.barrier ≡ true)))
+    (job.course ≡ GoesOn) × (is_fresh job.work ≡ true)
+    × ((did ≡ Barrier) ⊎ ((trouble : Trouble) × (did ≡ Troubled trouble) × (trouble.barrier ≡ true)))
 
 -- a step that a job may report, as far as its history tells
 abbrev pub IsAllowedStep : Running → Did → Type 0

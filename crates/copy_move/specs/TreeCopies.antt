@@ -1,5 +1,6 @@
--- The copy of a thing, with all that lies in it, as the work of a job: what a step may report, and where the copy stands then; what that says of
--- the tree's calls; and what a history tells of it. What it does next is said in copy_job.
+-- The copy of a thing, with all that lies in it, as the work of a job: what a step may report, and where
+-- the copy stands then; what that says of the tree's calls; and what a history tells of it. What it does
+-- next is said in copy_job.
 use Rattle.std.specs.Prelude.{◌≡◌, ◌≤◌, ℕ, Bool, true, false, List, Option, Some}
 use Rattle.mc_text.specs.Routes.{Route}
 use Rattle.tree_trait.specs.Change.{CallLog}
@@ -34,18 +35,22 @@ pub record IsGoing (c : SubtreeCopying) : Type 0 where
   pub steady : IsSteady c.at
   pub unbegun : IsUnbegun c.at
 
--- What a step may report that goes on, and where the copy stands then. A trouble is at a barrier where the copy stands so after it, and never before the
--- first change, which begins a part or makes a folder; what is passed over is in a trouble of a kind to which `Skip all` was answered. A folder is merged with one at
--- the target only before that change, and then the copy is over, which changes nothing. What is kept is what stands at the target. After a question
--- the copy stands where it stood.
+-- What a step may report that goes on, and where the copy stands then. A trouble is at a barrier where the
+-- copy stands so after it, and never before the first change, which begins a part or makes a folder; what
+-- is passed over is in a trouble of a kind to which `Skip all` was answered. A folder is merged with one at
+-- the target only before that change, and then the copy is over, which changes nothing. What is kept is
+-- what stands at the target. After a question the copy stands where it stood.
 pub record Tells (replies : Replies) (c : SubtreeCopying) (did : Did) (new : SubtreeCopying) : Type 0 where
   pub may : MayTell did
   pub after : IsAfter did c new
   pub first : is_fresh c.at.stage ≡ true → MayBegin did
   pub barred : (trouble : Trouble) → did ≡ Troubled trouble → trouble.barrier ≡ at_barrier new.at
-  pub apart : (trouble : Trouble) → did ≡ Troubled trouble → is_fresh c.at.stage ≡ true → trouble.barrier ≡ false
-  pub kinds : (path : Route) (cause : Cause) → did ≡ Skipped path cause → holds replies.skips (kind_in cause) ≡ true
-  pub merged : (pair : Pair) (names : List (List ℕ)) → did ≡ Merges ByCopy pair names → MergesTop c pair names new
+  pub apart : (trouble : Trouble) → did ≡ Troubled trouble → is_fresh c.at.stage ≡ true
+      → trouble.barrier ≡ false
+  pub kinds : (path : Route) (cause : Cause) → did ≡ Skipped path cause
+      → holds replies.skips (kind_in cause) ≡ true
+  pub merged : (pair : Pair) (names : List (List ℕ)) → did ≡ Merges ByCopy pair names
+      → MergesTop c pair names new
   pub kept : (path : Route) → did ≡ Kept path → KeepsTop c path new
   pub asked : (question : Question) → did ≡ Asked question → AsksTop c new
   pub over : IsOver c.at → IsOver new.at × (changes did ≡ false)
@@ -59,7 +64,9 @@ abbrev pub AllowsOnly : (Route → Type 0) → (Route → Bool) → Type 0
 AllowsOnly unclaimed free = (path : Route) → free path ≡ true → unclaimed path
 
 -- What the machine does in a step, which may come after looks that met faults.
-pub record Goes (unclaimed : Route → Type 0) (replies : Replies) (old new : SubtreeCopying) (did : Did) (calls : ℕ) (dirty dirty_after : List Route) (before after : Option CallLog) (faults faults_after : ℕ) : Type 0 where
+pub record Goes (unclaimed : Route → Type 0) (replies : Replies) (old new : SubtreeCopying)
+    (did : Did) (calls : ℕ) (dirty dirty_after : List Route) (before after : Option CallLog)
+    (faults faults_after : ℕ) : Type 0 where
   pub free : Route → Bool
   pub allows : AllowsOnly unclaimed free
   pub since : ℕ
@@ -67,7 +74,8 @@ pub record Goes (unclaimed : Route → Type 0) (replies : Replies) (old new : Su
   pub steps : SubtreeSteps free replies old new did calls dirty dirty_after before after since faults_after
 
 -- what a step says of the tree's calls: they are those of the machine
-pub record Calls (unclaimed : Route → Type 0) (replies : Replies) (c : SubtreeCopying) (did : Did) (new : SubtreeCopying) (log : CallLog) (after : Option CallLog) : Type 0 where
+pub record Calls (unclaimed : Route → Type 0) (replies : Replies) (c : SubtreeCopying) (did : Did)
+    (new : SubtreeCopying) (log : CallLog) (after : Option CallLog) : Type 0 where
   pub calls : ℕ
   pub dirty : List Route
   pub dirty_after : List Route
@@ -79,7 +87,8 @@ pub record Calls (unclaimed : Route → Type 0) (replies : Replies) (c : Subtree
 abbrev pub told_at : ℕ → Pair → Stage → Option Route → SubtreeCopying
 told_at id top stage part = record {
   top = top;
-  at = (let c : Seen = begun_tree_copy id (named_of top.source) (named_of top.target) in record c { stage = stage; item = stays_if part });
+  at = (let c : Seen = begun_tree_copy id (named_of top.source) (named_of top.target) in
+      record c { stage = stage; item = stays_if part });
 }
 
 abbrev pub as_told : ℕ → SubtreeCopying → SubtreeCopying

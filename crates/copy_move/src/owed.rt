@@ -1,4 +1,5 @@
-//! What an ended job left dirty, a folder or a thing that was given a mode, that a job has to sync before its first change.
+//! What an ended job left dirty, a folder or a thing that was given a mode, that a job has to sync
+//! before its first change.
 ghost use Rattle.std.specs.Prelude.{◌≡◌, ◌≤◌, ◌==◌, true, IfSome, IfNone, false};
 ghost use Rattle.std.specs.Option.{option_map_or};
 ghost use Rattle.mc_text.specs.Routes.{Route};
@@ -7,7 +8,9 @@ ghost use Rattle.tree_trait.specs.Change.{current, found_node};
 ghost use Rattle.tree_trait.specs.Answers.{IfKnown};
 ghost use Rattle.tree_trait.specs.Refusals.{is_folder};
 ghost use Rattle.tree_trait.specs.CrashImages.{Among};
-ghost use Rattle.copy_move.specs.Settling.{IsElsewhere, IsGoneForFolder, IsMountOf, LiesApart, LiesOff, NoneForFolder, NoneOwed, changed_folder, left_folder, moves_folder};
+ghost use Rattle.copy_move.specs.Settling.{IsElsewhere, IsGoneForFolder, IsMountOf};
+ghost use Rattle.copy_move.specs.Settling.{LiesApart, LiesOff, NoneForFolder, NoneOwed};
+ghost use Rattle.copy_move.specs.Settling.{changed_folder, left_folder, moves_folder};
 
 use crate::work::Work;
 use job_unsynced::Dirty;
@@ -15,8 +18,9 @@ use mc_text::{Kind, Path};
 use std::alloc::Global;
 use tree_trait::{Tree, TreeError};
 
-/// The first of what is dirty that lies on the mount of a folder in which this work begins, or of one on the way there, or is owed on any, as
-/// all is before a folder is moved, as far as the tree can be asked. One at which nothing stands any more was removed.
+/// The first of what is dirty that lies on the mount of a folder in which this work begins, or of one on
+/// the way there, or is owed on any, as all is before a folder is moved, as far as the tree can be asked.
+/// One at which nothing stands any more was removed.
 pub(crate) fn first_owed<'a, T: Tree>(
     dirty: &'a Dirty,
     alloc: Global,
@@ -24,8 +28,10 @@ pub(crate) fn first_owed<'a, T: Tree>(
     work: &Work,
 ) -> Option<&'a Path>
     ensures owed { IfSome result (λ owed. Among dirty.now owed.now) }
-    ensures none { IfNone result (IfKnown (T.contents tree.old) (λ log. NoneOwed (current log) work.now dirty.now)) }
-    ensures cleared { IfNone result (IfKnown (T.contents tree.old) (λ log. NoneForFolder (current log) work.now dirty.now)) }
+    ensures none { IfNone result (IfKnown (T.contents tree.old) (λ log.
+        NoneOwed (current log) work.now dirty.now)) }
+    ensures cleared { IfNone result (IfKnown (T.contents tree.old) (λ log.
+        NoneForFolder (current log) work.now dirty.now)) }
     ensures same { T.contents tree.new ≡ T.contents tree.old }
     ensures later { T.fault_count tree.old ≤ T.fault_count tree.new }
 {
@@ -45,7 +51,8 @@ pub(crate) fn first_owed<'a, T: Tree>(
 
 /// The number of the mount on which a folder lies; none where the tree doesn't say.
 fn mount_at<T: Tree>(alloc: Global, tree: &mut T, folder: &Path) -> Option<u32>
-    ensures is { IfSome result (λ mount. IfKnown (T.contents tree.old) (λ log. IsMountOf (current log) folder.now mount)) }
+    ensures is { IfSome result (λ mount.
+        IfKnown (T.contents tree.old) (λ log. IsMountOf (current log) folder.now mount)) }
     ensures same { T.contents tree.new ≡ T.contents tree.old }
     ensures later { T.fault_count tree.old ≤ T.fault_count tree.new }
 {
@@ -63,9 +70,12 @@ fn is_owed<T: Tree>(
     kept: &Path,
     mount: Option<u32>,
 ) -> bool
-    requires mount { IfSome mount (λ mount. IfKnown (T.contents tree.old) (λ log. IsMountOf (current log) (changed_folder work.now) mount)) }
-    ensures not { result ≡ false → IfKnown (T.contents tree.old) (λ log. IsElsewhere (current log) work.now kept.now) }
-    ensures first { result ≡ false → IfKnown (T.contents tree.old) (λ log. IsGoneForFolder (current log) work.now kept.now) }
+    requires mount { IfSome mount (λ mount.
+        IfKnown (T.contents tree.old) (λ log. IsMountOf (current log) (changed_folder work.now) mount)) }
+    ensures not { result ≡ false
+        → IfKnown (T.contents tree.old) (λ log. IsElsewhere (current log) work.now kept.now) }
+    ensures first { result ≡ false
+        → IfKnown (T.contents tree.old) (λ log. IsGoneForFolder (current log) work.now kept.now) }
     ensures same { T.contents tree.new ≡ T.contents tree.old }
     ensures later { T.fault_count tree.old ≤ T.fault_count tree.new }
 {
@@ -76,8 +86,9 @@ fn is_owed<T: Tree>(
     }
 }
 
-/// Whether what is dirty on the mount of this number may be owed: on whatever mount it lies, or on that of the work's folder, or on that of
-/// one on the way. Most of it lies on the mount of the folder, and then nothing else is asked.
+/// Whether what is dirty on the mount of this number may be owed: on whatever mount it lies, or on that
+/// of the work's folder, or on that of one on the way. Most of it lies on the mount of the folder, and
+/// then nothing else is asked.
 fn is_owed_from<T: Tree>(
     alloc: Global,
     tree: &mut T,
@@ -87,9 +98,12 @@ fn is_owed_from<T: Tree>(
     mount: Option<u32>,
 ) -> bool
     requires lies { IfKnown (T.contents tree.old) (λ log. IsMountOf (current log) kept.now number) }
-    requires mount { IfSome mount (λ mount. IfKnown (T.contents tree.old) (λ log. IsMountOf (current log) (changed_folder work.now) mount)) }
-    ensures not { result ≡ false → IfKnown (T.contents tree.old) (λ log. IsElsewhere (current log) work.now kept.now) }
-    ensures first { result ≡ false → IfKnown (T.contents tree.old) (λ log. IsGoneForFolder (current log) work.now kept.now) }
+    requires mount { IfSome mount (λ mount.
+        IfKnown (T.contents tree.old) (λ log. IsMountOf (current log) (changed_folder work.now) mount)) }
+    ensures not { result ≡ false
+        → IfKnown (T.contents tree.old) (λ log. IsElsewhere (current log) work.now kept.now) }
+    ensures first { result ≡ false
+        → IfKnown (T.contents tree.old) (λ log. IsGoneForFolder (current log) work.now kept.now) }
     ensures same { T.contents tree.new ≡ T.contents tree.old }
     ensures later { T.fault_count tree.old ≤ T.fault_count tree.new }
 {
@@ -107,7 +121,8 @@ fn is_owed_from<T: Tree>(
 
 /// Whether it may be a folder that this work moves.
 fn may_move_folder<T: Tree>(alloc: Global, tree: &mut T, work: &Work) -> bool
-    ensures not { result ≡ false → IfKnown (T.contents tree.old) (λ log. moves_folder (current log) work.now ≡ false) }
+    ensures not { result ≡ false
+        → IfKnown (T.contents tree.old) (λ log. moves_folder (current log) work.now ≡ false) }
     ensures same { T.contents tree.new ≡ T.contents tree.old }
     ensures later { T.fault_count tree.old ≤ T.fault_count tree.new }
 {
@@ -119,7 +134,8 @@ fn may_move_folder<T: Tree>(alloc: Global, tree: &mut T, work: &Work) -> bool
 
 /// Whether a folder may stand there.
 fn may_be_folder<T: Tree>(alloc: Global, tree: &mut T, path: &Path) -> bool
-    ensures not { result ≡ false → IfKnown (T.contents tree.old) (λ log. is_folder (node (current log) (found_node (current log) path.now)) ≡ false) }
+    ensures not { result ≡ false → IfKnown (T.contents tree.old) (λ log.
+        is_folder (node (current log) (found_node (current log) path.now)) ≡ false) }
     ensures same { T.contents tree.new ≡ T.contents tree.old }
     ensures later { T.fault_count tree.old ≤ T.fault_count tree.new }
 {
@@ -139,12 +155,14 @@ fn is_mount(number: u32, mount: Option<u32>) -> bool
     }
 }
 
-/// Whether the mount of this number, on which the work's folder doesn't lie, may be that of one on the way there, or of the folder that
-/// something leaves, or of one on the way to that.
+/// Whether the mount of this number, on which the work's folder doesn't lie, may be that of one on the way
+/// there, or of the folder that something leaves, or of one on the way to that.
 fn is_on_way<T: Tree>(alloc: Global, tree: &mut T, work: &Work, number: u32) -> bool
-    ensures not { result ≡ false → IfKnown (T.contents tree.old) (λ log. (kept : Route) → IsMountOf (current log) kept number
+    ensures not { result ≡ false
+        → IfKnown (T.contents tree.old) (λ log. (kept : Route) → IsMountOf (current log) kept number
         → LiesApart (current log) (changed_folder work.now) kept
-        → LiesOff (current log) (changed_folder work.now) kept × LiesOff (current log) (left_folder work.now) kept) }
+        → LiesOff (current log) (changed_folder work.now) kept
+        × LiesOff (current log) (left_folder work.now) kept) }
     ensures same { T.contents tree.new ≡ T.contents tree.old }
     ensures later { T.fault_count tree.old ≤ T.fault_count tree.new }
 {
@@ -160,10 +178,11 @@ fn is_on_way<T: Tree>(alloc: Global, tree: &mut T, work: &Work, number: u32) -> 
     is_above(alloc, tree, work.left_folder(), number)
 }
 
-/// Whether the mount of this number, on which a folder doesn't lie, may be that of one on the way to it. Without the memory for the path of
-/// one on the way it may be.
+/// Whether the mount of this number, on which a folder doesn't lie, may be that of one on the way to it.
+/// Without the memory for the path of one on the way it may be.
 fn is_above<T: Tree>(alloc: Global, tree: &mut T, folder: &Path, number: u32) -> bool
-    ensures not { result ≡ false → IfKnown (T.contents tree.old) (λ log. (kept : Route) → IsMountOf (current log) kept number
+    ensures not { result ≡ false
+        → IfKnown (T.contents tree.old) (λ log. (kept : Route) → IsMountOf (current log) kept number
         → LiesApart (current log) folder.now kept → LiesOff (current log) folder.now kept) }
     ensures same { T.contents tree.new ≡ T.contents tree.old }
     ensures later { T.fault_count tree.old ≤ T.fault_count tree.new }

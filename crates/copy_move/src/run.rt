@@ -1,5 +1,5 @@
-//! A job that is worked, step by step: it does its work, waits with a question or in a trouble for an answer, and makes its last
-//! steps where it is to end early.
+//! A job that is worked, step by step: it does its work, waits with a question or in a trouble for an
+//! answer, and makes its last steps where it is to end early.
 ghost use Rattle.std.specs.Prelude.{◌≡◌, IfOk, Some, false, option_map, true};
 ghost use Rattle.job_reports.specs.Jobs.{is_workable};
 ghost use Rattle.copy_move.specs.Jobs.{asks_on, first_work, kind_of, part_of, path_of, waits_on};
@@ -34,7 +34,8 @@ pub enum Course {
     Asking,
     /// A call was refused, or there was no memory. The job waits for an answer.
     InTrouble(Halt),
-    /// What an ended job left dirty could not be synced. The job has changed nothing yet, and waits for an answer.
+    /// What an ended job left dirty could not be synced. The job has changed nothing yet,
+    /// and waits for an answer.
     OwedSyncFailed(Cause),
     /// What stands next is to be left as it is, since this stood in the way.
     Skips(Cause),
@@ -51,8 +52,8 @@ pub struct Run {
     replies: Replies,
 }
 
-/// Written by hand, so that it is a call wherever a job is let go of: the prover would look through a derived one there, with all that
-/// each kind of work holds.
+/// Written by hand, so that it is a call wherever a job is let go of: the prover would look through a
+/// derived one there, with all that each kind of work holds.
 impl Drop for Run {
     fn drop(self) {
         let Run {
@@ -92,8 +93,8 @@ impl Run {
         })
     }
 
-    /// The job as it goes on with its next source, of which this is the plan: under its number; what was answered for all items, and for all
-    /// troubles of a kind, goes on to hold.
+    /// The job as it goes on with its next source, of which this is the plan: under its number; what was
+    /// answered for all items, and for all troubles of a kind, goes on to hold.
     pub fn turn(&self, alloc: Global, next: &Job) -> Result<Run, NoMemory>
         requires sound { is_workable next.now ≡ true }
         ensures turned { IfOk result (λ run. turned_job next.now self.now ≡ Some run) }
@@ -156,10 +157,10 @@ impl Run {
         self.work.part()
     }
 
-    /// Makes the job's next step. Where an ended job left something dirty on the mount on which this job is to change names, or in what
-    /// it is to delete, or anything at all where this job is to set a mode, that is synced first, one a step. After an end the job is to
-    /// be let go. A folder is among the dirty ones from the job's first change there, and a thing from its new mode on, until it was
-    /// synced.
+    /// Makes the job's next step. Where an ended job left something dirty on the mount on which this job is
+    /// to change names, or in what it is to delete, or anything at all where this job is to set a mode,
+    /// that is synced first, one a step. After an end the job is to be let go. A folder is among the dirty
+    /// ones from the job's first change there, and a thing from its new mode on, until it was synced.
     pub fn step<T: Tree, P: PartTest>(
         &mut self,
         alloc: Global,

@@ -102,7 +102,8 @@ fn folder_of(alloc: Global, path: &Path) -> Result<Work, NoMemory>
 /// The making of one link.
 fn link_of(alloc: Global, path: &Path, text: &Text) -> Result<Work, NoMemory>
     requires { is_workable (plan.MakeLink path.now text.now) ≡ true }
-    ensures { IfOk result (λ work. (first_work 0 (plan.MakeLink path.now text.now) ≡ Some work) × IsGoing work) }
+    ensures { IfOk result
+        (λ work. (first_work 0 (plan.MakeLink path.now text.now) ≡ Some work) × IsGoing work) }
 {
     let Some(folder) = path.parent(alloc)? else {
         unreachable!()

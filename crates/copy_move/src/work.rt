@@ -1,7 +1,8 @@
-//! What a job does: it copies or deletes a thing with all that lies in it, moves a thing, makes a folder or a link, sets a thing's mode, or
-//! removes a folder that a merge has emptied. One machine for each.
+//! What a job does: it copies or deletes a thing with all that lies in it, moves a thing, makes a folder or
+//! a link, sets a thing's mode, or removes a folder that a merge has emptied. One machine for each.
 ghost use Rattle.std.specs.Prelude.{◌≡◌, false, option_map, true};
-ghost use Rattle.copy_move.specs.Jobs.{IsGoing, at_barrier, is_fresh, kind_of, part_of, path_of, taken_anew as anew};
+ghost use Rattle.copy_move.specs.Jobs.{IsGoing, at_barrier, is_fresh, kind_of};
+ghost use Rattle.copy_move.specs.Jobs.{part_of, path_of, taken_anew as anew};
 ghost use Rattle.copy_move.specs.Settling.{changed_folder, is_owed_anywhere, left_folder, moved_thing};
 ghost use Rattle.copy_move.specs.JobStepReports.{WorkSkips, WorkSteps, WorkWindsUp};
 
@@ -40,8 +41,10 @@ impl Work {
         replies: Replies,
     ) -> StepResult
         requires going { IsGoing self.old }
-        ensures steps { WorkSteps (λ path. P.is_free parts.now path ≡ true) replies self.old self.new result.did result.calls
-            dirty.old dirty.new (T.contents tree.old) (T.contents tree.new) (T.fault_count tree.old) (T.fault_count tree.new) }
+        ensures steps { WorkSteps (λ path. P.is_free parts.now path ≡ true) replies self.old self.new
+            result.did result.calls
+            dirty.old dirty.new (T.contents tree.old) (T.contents tree.new) (T.fault_count tree.old)
+            (T.fault_count tree.new) }
         ensures going { IsGoing self.new }
     {
         match self {
@@ -178,7 +181,8 @@ impl Work {
         }
     }
 
-    /// The folder that holds what is placed, removed or given a mode; of a move that of its target, which a renaming finds on the mount of the other.
+    /// The folder that holds what is placed, removed or given a mode; of a move that of its target, which a
+    /// renaming finds on the mount of the other.
     pub(crate) fn folder(&self) -> &Path
         ensures { result.now ≡ changed_folder self.now }
     {
@@ -206,8 +210,9 @@ impl Work {
         }
     }
 
-    /// Whether what is dirty here has to be synced first on whatever mount it lies: it is the thing that is removed or moved, or lies in
-    /// it; and before a mode is set all has, since the mode of a folder may bar the way to what lies in it.
+    /// Whether what is dirty here has to be synced first on whatever mount it lies: it is the thing that is
+    /// removed or moved, or lies in it; and before a mode is set all has, since the mode of a folder may
+    /// bar the way to what lies in it.
     pub(crate) fn is_owed_anywhere(&self, dirty: &Path) -> bool
         ensures { result ≡ is_owed_anywhere self.now dirty.now }
     {

@@ -1,5 +1,5 @@
--- What may be replaced: where what is copied itself is a file or a link, and a file or a link stands at its target, it is asked whether the one replaces the other,
--- where no answer that stands decides that.
+-- What may be replaced: where what is copied itself is a file or a link, and a file or a link stands at its
+-- target, it is asked whether the one replaces the other, where no answer that stands decides that.
 use Rattle.std.specs.Prelude.{◌≡◌, ◌⊎◌, ⊤, Bool, true, None, Some}
 use Rattle.mc_text.specs.declared.kind.Kind.{Kind}
 use Rattle.mc_text.specs.declared.kind.Kind.TheVariants as kind
@@ -39,12 +39,16 @@ pub record AreBothSingle (s : FileSystem) (pair : Pair) : Type 0 where
   pub replacing : IsReplaceable source.kind
   pub replaceable : IsReplaceable target.kind
 
--- This is the question whether the one replaces the other, and this is decided of it by the answers that stand.
-pub record IsDecided (s : FileSystem) (pair : Pair) (replies : Replies) (question : Question) (decision : Decision) : Type 0 where
+-- This is the question whether the one replaces the other, and this is decided of it
+-- by the answers that stand.
+pub record IsDecided (s : FileSystem) (pair : Pair) (replies : Replies) (question : Question)
+    (decision : Decision) : Type 0 where
   pub both : AreBothSingle s pair
   pub asks : question ≡ question_on pair.source both.source pair.target both.target
   pub decides : decision_on replies question ≡ decision
 
--- Nothing stands at the target; or what is copied is the top itself, and what stands there is replaced by an answer that stands.
+-- Nothing stands at the target; or what is copied is the top itself, and what stands there is replaced
+-- by an answer that stands.
 abbrev pub IsOpen : FileSystem → Bool → Replies → Pair → Type 0
-IsOpen s top replies pair = IsFree s pair ⊎ ((top ≡ true) × ((question : Question) × IsDecided s pair replies question Replace))
+IsOpen s top replies pair =
+    IsFree s pair ⊎ ((top ≡ true) × ((question : Question) × IsDecided s pair replies question Replace))

@@ -11,4 +11,5 @@ abbrev pub top_of : Named → Named → Pair
 top_of source target = record { source = source.name ∷ source.folder; target = target.name ∷ target.folder }
 
 abbrev pub BeginningLaw : Type 0
-BeginningLaw = (job : ℕ) (source target : Named) → IsInPlace (top_of source target) (begun_tree_copy job source target) × IsSteady (begun_tree_copy job source target)
+BeginningLaw = (job : ℕ) (source target : Named) → IsInPlace (top_of source target)
+    (begun_tree_copy job source target) × IsSteady (begun_tree_copy job source target)

@@ -51,6 +51,8 @@ decides did = false
 -- No step leaves more things, and each that places a thing or makes a folder leaves fewer.
 abbrev pub FallingLaw : Type 0
 FallingLaw =
-    (free : Route → Bool) (replies : Replies) (old new : Seen) (did : Did) (calls : ℕ) (before after : Option CallLog) (faults faults_after : ℕ)
+    (free : Route → Bool) (replies : Replies) (old new : Seen) (did : Did) (calls : ℕ)
+    (before after : Option CallLog) (faults faults_after : ℕ)
     → CopySteps free replies old new did calls before after faults faults_after → IsSteady old
-    → IsSteady new × (things_left new ≤ things_left old) × (decides did ≡ true → things_left new < things_left old)
+    → IsSteady new × (things_left new ≤ things_left old)
+    × (decides did ≡ true → things_left new < things_left old)

@@ -29,7 +29,8 @@ owed_of (Fill owed) = owed
 owed_of (Close owed) = owed
 owed_of Done = None
 
--- the outermost folders hold what is copied, and its copy, and have that one name to be met at most. That of the target keeps its mode.
+-- the outermost folders hold what is copied, and its copy, and have that one name to be met at most. That
+-- of the target keeps its mode.
 pub record HoldsTop (top : Pair) (outermost : Level) : Type 0 where
   pub from : outermost.copy.source ≡ folder_of top.source
   pub to : outermost.copy.target ≡ folder_of top.target
@@ -40,7 +41,8 @@ pub record HoldsTop (top : Pair) (outermost : Level) : Type 0 where
 -- each other open folder lies in its place
 abbrev pub AreMoved : Pair → Level → List Level → Type 0
 AreMoved top inner [] = HoldsTop top inner
-AreMoved top inner (outer ∷ around) = IsMoved top inner.copy.source inner.copy.target × AreMoved top outer around
+AreMoved top inner (outer ∷ around) =
+    IsMoved top inner.copy.source inner.copy.target × AreMoved top outer around
 
 -- so does the thing that is at work
 abbrev pub ItemMoved : Pair → ItemAtWork → Type 0
@@ -49,7 +51,8 @@ ItemMoved top (File f) = IsMoved top f.source f.target
 ItemMoved top (Link l) = IsMoved top l.source l.target
 ItemMoved top (Stays part) = ⊤
 
--- what is copied itself is met once: where it was gone into, the folder that holds it has no other name to be met
+-- what is copied itself is met once: where it was gone into, the folder that holds it
+-- has no other name to be met
 abbrev pub NoneBeside : List Level → Type 0
 NoneBeside [] = ⊤
 NoneBeside (outermost ∷ []) = outermost.names.names ≡ []
@@ -61,8 +64,8 @@ pub record IsInPlace (top : Pair) (c : Seen) : Type 0 where
   pub alone : NoneBeside c.levels.around
   pub item : ItemMoved top c.item
 
--- What a report names lies in its place: what is placed or made is the target of a thing at or below the source; no other folder is given a
--- mode.
+-- What a report names lies in its place: what is placed or made is the target of a thing at or below the
+-- source; no other folder is given a mode.
 abbrev pub IsTargetOf : Pair → Route → Type 0
 IsTargetOf top path = (source : Route) × IsMoved top source path
 
@@ -72,8 +75,11 @@ NamesTarget top (common.Made path) = IsTargetOf top path
 NamesTarget top (common.Set path) = IsTargetOf top path
 NamesTarget top did = ⊤
 
--- A copy that is in its place stays there with each step, and what it places, makes and gives a mode is the target of a thing of the source.
+-- A copy that is in its place stays there with each step, and what it places, makes and gives a mode is the
+-- target of a thing of the source.
 abbrev pub PlaceLaw : Type 0
 PlaceLaw =
-    (free : Route → Bool) (replies : Replies) (top : Pair) (old new : Seen) (did : Did) (calls : ℕ) (before after : Option CallLog) (faults faults_after : ℕ)
-    → CopySteps free replies old new did calls before after faults faults_after → IsInPlace top old → IsInPlace top new × NamesTarget top did
+    (free : Route → Bool) (replies : Replies) (top : Pair) (old new : Seen) (did : Did) (calls : ℕ)
+    (before after : Option CallLog) (faults faults_after : ℕ)
+    → CopySteps free replies old new did calls before after faults faults_after → IsInPlace top old
+    → IsInPlace top new × NamesTarget top did

@@ -26,8 +26,10 @@ IsNoFolder kind.Folder = ⊥
 
 -- a file or a link is taken up, and anything else is a trouble
 abbrev pub TakesSingle : Pair → Meta → Result Taken Trouble → Type 0
-TakesSingle pair source (Ok what) = ((source.kind ≡ kind.File) × (what ≡ taken.File (facts_in source))) ⊎ ((source.kind ≡ kind.Link) × (what ≡ taken.Link))
-TakesSingle pair source (Err t) = (IsReplaceable source.kind → ⊥) × IsTroubleWithPath SpecialSource pair.source t
+TakesSingle pair source (Ok what) = ((source.kind ≡ kind.File) × (what ≡ taken.File (facts_in source)))
+    ⊎ ((source.kind ≡ kind.Link) × (what ≡ taken.Link))
+TakesSingle pair source (Err t) =
+    (IsReplaceable source.kind → ⊥) × IsTroubleWithPath SpecialSource pair.source t
 
 -- it is taken up, or what stands at its target is kept, or it is asked
 abbrev pub TakesDecided : Decision → Question → Pair → Meta → Result Taken Trouble → Type 0
@@ -39,15 +41,19 @@ TakesDecided Ask question pair source result = result ≡ Ok (taken.Asked questi
 abbrev pub ByAnswer : Replies → Pair → Meta → Meta → Result Taken Trouble → Type 0
 ByAnswer replies pair source target result =
     (result ≡ Err (out_of_memory_at false))
-    ⊎ (let question : Question = question_on pair.source source pair.target target in TakesDecided (decision_on replies question) question pair source result)
+    ⊎ (let question : Question = question_on pair.source source pair.target target in
+    TakesDecided (decision_on replies question) question pair source result)
 
--- What stands at the target is in the way; or it is a file or a link, and then a special file can't be copied, and a file or a link that is copied itself is as was answered.
+-- What stands at the target is in the way; or it is a file or a link, and then a special file can't be
+-- copied, and a file or a link that is copied itself is as was answered.
 abbrev pub JudgesOnto : Bool → Replies → Pair → Meta → Meta → Result Taken Trouble → Type 0
 JudgesOnto top replies pair source target result =
     (((IsReplaceable target.kind → ⊥) ⊎ (IsReplaceable source.kind × (top ≡ false)))
     × ((t : Trouble) × (result ≡ Err t) × IsTroubleWithPath (TargetKind target.kind) pair.target t))
-    ⊎ (IsReplaceable target.kind × (IsReplaceable source.kind → ⊥) × ((t : Trouble) × (result ≡ Err t) × IsTroubleWithPath SpecialSource pair.source t))
-    ⊎ (IsReplaceable target.kind × IsReplaceable source.kind × (top ≡ true) × ByAnswer replies pair source target result)
+    ⊎ (IsReplaceable target.kind × (IsReplaceable source.kind → ⊥)
+    × ((t : Trouble) × (result ≡ Err t) × IsTroubleWithPath SpecialSource pair.source t))
+    ⊎ (IsReplaceable target.kind × IsReplaceable source.kind × (top ≡ true)
+    × ByAnswer replies pair source target result)
 
 abbrev pub Judges : Bool → Replies → Pair → Meta → Option Meta → Result Taken Trouble → Type 0
 Judges top replies pair source (Some target) result = JudgesOnto top replies pair source target result

@@ -42,14 +42,16 @@ IsFreshOnto stage onto.Folder = stage ≡ Begin
 abbrev pub OntoStops : FileSystem → Stage → Pair → Trouble → Type 0
 OntoStops s stage pair t =
     TargetStops s pair.target t.cause t.path
-    ⊎ ((refusal_of s (Stat pair.target) ≡ None) × IsTroubleWithPath (TargetKind (node s (found_node s pair.target)).kind) pair.target t
+    ⊎ ((refusal_of s (Stat pair.target) ≡ None)
+    × IsTroubleWithPath (TargetKind (node s (found_node s pair.target)).kind) pair.target t
     × (joins_folders stage (node s (found_node s pair.target)).kind ≡ false))
 
 -- something of this kind stands there
 abbrev pub IsOntoKind : Stage → Pair → Kind → Result Onto Trouble → Type 0
 IsOntoKind stage pair found (Ok onto.Nothing) = ⊥
 IsOntoKind stage pair found (Ok onto.Folder) = (stage ≡ Begin) × (found ≡ kind.Folder)
-IsOntoKind stage pair found (Err t) = IsTroubleWithPath (TargetKind found) pair.target t × (joins_folders stage found ≡ false)
+IsOntoKind stage pair found (Err t) =
+    IsTroubleWithPath (TargetKind found) pair.target t × (joins_folders stage found ≡ false)
 
 -- what has this name can be told, with its target, or the trouble of it
 abbrev pub IsChildOr : Pair → List ℕ → Result (Unit {0}) Trouble → Type 0
@@ -59,12 +61,14 @@ IsChildOr pair name (Err t) = ChildStops pair name t ⊎ (t ≡ out_of_memory_at
 -- all that lies in the folder can be told, or the trouble of something that can't
 abbrev pub AreChildrenOr : Pair → List (List ℕ) → Result (Unit {0}) Trouble → Type 0
 AreChildrenOr pair names (Ok it) = AreShort pair names
-AreChildrenOr pair names (Err t) = ((name : List ℕ) × Among names name × ChildStops pair name t) ⊎ (t ≡ out_of_memory_at false)
+AreChildrenOr pair names (Err t) =
+    ((name : List ℕ) × Among names name × ChildStops pair name t) ⊎ (t ≡ out_of_memory_at false)
 
--- The trouble of a folder whose names are wanted for a merge: it can't be listed, or not all its names can be shown; or something in it has too long a path, or would
--- at its target; or there is no memory.
+-- The trouble of a folder whose names are wanted for a merge: it can't be listed, or not all its names can
+-- be shown; or something in it has too long a path, or would at its target; or there is no memory.
 abbrev pub NamesStop : FileSystem → Pair → Trouble → Type 0
 NamesStop s pair t =
     FolderStops s pair.source t
-    ⊎ ((name : List ℕ) × (names : List (List ℕ)) × Lists s pair.source names × Among names name × ChildStops pair name t)
+    ⊎ ((name : List ℕ) × (names : List (List ℕ)) × Lists s pair.source names × Among names name
+    × ChildStops pair name t)
     ⊎ (t ≡ out_of_memory_at false)

@@ -1,5 +1,5 @@
--- A folder that was made is on the disk before anything is put into it: of the open folders only the innermost is dirty, but for the moment
--- after it was made, when the one around it is.
+-- A folder that was made is on the disk before anything is put into it: of the open folders only the
+-- innermost is dirty, but for the moment after it was made, when the one around it is.
 use Rattle.std.specs.Prelude.{◌≡◌, ℕ, ⊤, Bool, true, false, List, [], ◌∷◌, Option}
 use Rattle.mc_text.specs.Routes.{Route}
 use Rattle.tree_trait.specs.Change.{CallLog}
@@ -31,7 +31,8 @@ pub record IsUntouched (item : ItemAtWork) (inner : Level) : Type 0 where
 -- the folders around this one aren't dirty; only the nearest may be, as long as nothing is put into this one
 abbrev pub AroundSynced : ItemAtWork → Level → List Level → Type 0
 AroundSynced item inner [] = ⊤
-AroundSynced item inner (outer ∷ around) = (is_dirty outer.copy.names ≡ true → IsUntouched item inner) × AllSynced around
+AroundSynced item inner (outer ∷ around) =
+    (is_dirty outer.copy.names ≡ true → IsUntouched item inner) × AllSynced around
 
 abbrev pub IsOnDisk : Seen → Type 0
 IsOnDisk c = AroundSynced c.item c.levels.inner c.levels.around
@@ -39,9 +40,13 @@ IsOnDisk c = AroundSynced c.item c.levels.inner c.levels.around
 -- A copy that begins is so, and each step, skip, retry and last step keeps it.
 pub record OnDiskLaw : Type 0 where
   pub begins : (job : ℕ) (source target : Named) → IsOnDisk (begun_tree_copy job source target)
-  pub step : (free : Route → Bool) (replies : Replies) (old new : Seen) (did : Did) (calls : ℕ) (before after : Option CallLog) (faults faults_after : ℕ)
-      → CopySteps free replies old new did calls before after faults faults_after → IsOnDisk old → IsOnDisk new
-  pub skip : (cause : Cause) (old new : Seen) (did : Did) → Skips cause old did new → IsOnDisk old → IsOnDisk new
+  pub step : (free : Route → Bool) (replies : Replies) (old new : Seen) (did : Did) (calls : ℕ)
+      (before after : Option CallLog) (faults faults_after : ℕ)
+      → CopySteps free replies old new did calls before after faults faults_after
+      → IsOnDisk old → IsOnDisk new
+  pub skip : (cause : Cause) (old new : Seen) (did : Did) → Skips cause old did new
+      → IsOnDisk old → IsOnDisk new
   pub retry : (old : Seen) → IsOnDisk old → IsOnDisk (retried_copy old)
-  pub last_step : (ending : Ending) (old new : Seen) (last : LastStepResult) (before after : Option CallLog) (faults faults_after : ℕ)
+  pub last_step : (ending : Ending) (old new : Seen) (last : LastStepResult) (before after : Option CallLog)
+      (faults faults_after : ℕ)
       → WindsAt old.item ending old new last before after faults faults_after → IsOnDisk old → IsOnDisk new

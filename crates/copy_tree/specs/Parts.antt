@@ -1,5 +1,5 @@
--- Which paths a part may take. In a folder that is dirty one name serves part after part. A thing that has just this name, and comes later, would
--- be placed at a path of which the part's changes still wait.
+-- Which paths a part may take. In a folder that is dirty one name serves part after part. A thing that has
+-- just this name, and comes later, would be placed at a path of which the part's changes still wait.
 use Rattle.std.specs.Prelude.{◌≡◌, ◌&&◌, ⊤, not, Bool, true, false, List, ℕ, [], ◌∷◌, Option, Some, None}
 use Rattle.mc_text.specs.Routes.{Route}
 use Rattle.tree_walk.specs.Places.{is_one_of}

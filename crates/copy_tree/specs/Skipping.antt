@@ -25,18 +25,22 @@ NoRoom old did new = (did ≡ Troubled (out_of_memory_at false)) × (new ≡ old
 -- All that is yet to be met in the folder that is worked is left, and that folder is told.
 abbrev pub SkipsRest : Cause → Seen → Did → Seen → Type 0
 SkipsRest cause old did new =
-    ((did ≡ Skipped old.levels.inner.copy.source cause) × (new ≡ record old { levels = emptied_levels old.levels })) ⊎ NoRoom old did new
+    ((did ≡ Skipped old.levels.inner.copy.source cause)
+    × (new ≡ record old { levels = emptied_levels old.levels })) ⊎ NoRoom old did new
 
--- The next name is left, with all that lies in it; where its path would be too long to be told, all that is left in its folder.
+-- The next name is left, with all that lies in it; where its path would be too long to be told, all
+-- that is left in its folder.
 abbrev pub SkipsName : List ℕ → Cause → Seen → Did → Seen → Type 0
 SkipsName name cause old did new =
-    ((did ≡ Skipped (name ∷ old.levels.inner.copy.source) cause) × (new ≡ record old { levels = passed_levels true old.levels }))
+    ((did ≡ Skipped (name ∷ old.levels.inner.copy.source) cause)
+    × (new ≡ record old { levels = passed_levels true old.levels }))
     ⊎ ((4096 < length (spelled_route (name ∷ old.levels.inner.copy.source))) × SkipsRest cause old did new)
     ⊎ NoRoom old did new
 
 -- the folder that is worked keeps the mode that it was made with
 abbrev pub SkipsEnd : Cause → Seen → Did → Seen → Type 0
-SkipsEnd cause old did new = (moved : FolderCopying) × folder.Skips cause old.levels.inner.copy did moved × (new ≡ record old { levels = with_copy moved old.levels })
+SkipsEnd cause old did new = (moved : FolderCopying) × folder.Skips cause old.levels.inner.copy did moved
+    × (new ≡ record old { levels = with_copy moved old.levels })
 
 abbrev pub SkipsNamed : List (List ℕ) → Cause → Seen → Did → Seen → Type 0
 SkipsNamed [] cause old did new = SkipsEnd cause old did new
@@ -48,11 +52,13 @@ SkipsNext cause old did new = SkipsNamed old.levels.inner.names.names cause old 
 
 -- a file is left; its part is to be removed
 abbrev pub SkipsFile : Cause → Copying → Seen → Did → Seen → Type 0
-SkipsFile cause f old did new = (moved : Copying) × file.Skips cause f did moved × (new ≡ copy_after_progress (progress moved.stage) (File moved) old)
+SkipsFile cause f old did new = (moved : Copying) × file.Skips cause f did moved
+    × (new ≡ copy_after_progress (progress moved.stage) (File moved) old)
 
 -- a link is left; its part is to be removed
 abbrev pub SkipsLink : Cause → LinkCopying → Seen → Did → Seen → Type 0
-SkipsLink cause l old did new = (moved : LinkCopying) × link.Skips cause l did moved × (new ≡ copy_after_progress (link_progress moved.stage) (Link moved) old)
+SkipsLink cause l old did new = (moved : LinkCopying) × link.Skips cause l did moved
+    × (new ≡ copy_after_progress (link_progress moved.stage) (Link moved) old)
 
 -- what is in trouble is left, by what is at work
 abbrev pub SkipsAt : ItemAtWork → Cause → Seen → Did → Seen → Type 0
@@ -66,10 +72,12 @@ Skips cause old did new = SkipsAt old.item cause old did new
 
 -- a file or a link is copied anew, once its part was removed
 abbrev pub retried_file : Copying → Seen → Seen
-retried_file f c = copy_after_progress (progress (file_anew f.stage)) (File (record f { stage = file_anew f.stage })) c
+retried_file f c =
+    copy_after_progress (progress (file_anew f.stage)) (File (record f { stage = file_anew f.stage })) c
 
 abbrev pub retried_link : LinkCopying → Seen → Seen
-retried_link l c = copy_after_progress (link_progress (link_anew l.stage)) (Link (record l { stage = link_anew l.stage })) c
+retried_link l c =
+    copy_after_progress (link_progress (link_anew l.stage)) (Link (record l { stage = link_anew l.stage })) c
 
 abbrev pub retried_at : ItemAtWork → Seen → Seen
 retried_at Next c = c

@@ -30,14 +30,16 @@ pub record Seen : Type 0 where
 abbrev pub seen_copy : TreeCopy → Seen
 seen_copy c = record { job = c.job; name = c.name; stage = c.stage; item = c.item; levels = c.stack.levels }
 
--- The copy just begun. The folder that holds the source counts as open, with that one name in it, and its copy as one that stands.
+-- The copy just begun. The folder that holds the source counts as open, with that one name in it, and its
+-- copy as one that stands.
 abbrev pub begun_tree_copy : ℕ → Named → Named → Seen
 begun_tree_copy job source target = record {
   job = job;
   name = target.name;
   stage = Begin;
   item = Next;
-  levels = outermost (opened_folder source.folder (source.name ∷ [])) (folder.copying source.folder target.folder (folder_stage.Fill None) folder_names.Synced);
+  levels = outermost (opened_folder source.folder (source.name ∷ []))
+      (folder.copying source.folder target.folder (folder_stage.Fill None) folder_names.Synced);
 }
 
 abbrev pub is_fresh : Stage → Bool
@@ -64,7 +66,10 @@ target_name c name = if is_empty c.levels.around then c.name else name
 
 -- source and target of the thing that has this name in the folder that is worked
 abbrev pub pair_of : Seen → List ℕ → Pair
-pair_of c name = record { source = name ∷ c.levels.inner.copy.source; target = target_name c name ∷ c.levels.inner.copy.target }
+pair_of c name = record {
+  source = name ∷ c.levels.inner.copy.source;
+  target = target_name c name ∷ c.levels.inner.copy.target;
+}
 
 -- what is taken up: the thing that has the next name, or the end of the folder that is worked
 abbrev pub due_at : List (List ℕ) → Seen → Due

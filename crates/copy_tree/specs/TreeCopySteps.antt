@@ -1,6 +1,8 @@
--- What a step of a tree's copy reports, where the copy stands then, and what it says of the tree's calls. The copies of a file, of a link
--- and of a folder itself say each what their steps may report and call; here stands which of them is at work, on which paths, and when.
-use Rattle.std.specs.Prelude.{◌≡◌, ◌⊎◌, ℕ, suc, zero, ◌^◌, ◌≤◌, ⊤, Bool, true, false, List, [], ◌∷◌, length, Option, Some, None}
+-- What a step of a tree's copy reports, where the copy stands then, and what it says of the tree's calls.
+-- The copies of a file, of a link and of a folder itself say each what their steps may report and call;
+-- here stands which of them is at work, on which paths, and when.
+use Rattle.std.specs.Prelude.{◌≡◌, ◌⊎◌, ℕ, suc, zero, ◌^◌, ◌≤◌, ⊤, Bool, true}
+use Rattle.std.specs.Prelude.{false, List, [], ◌∷◌, length, Option, Some, None}
 use Rattle.mc_text.specs.Routes.{Route}
 use Rattle.tree_trait.specs.Change.{CallLog, current}
 use Rattle.tree_trait.specs.Answers.{IfKnown, HasRisen, IsAscending}
@@ -47,14 +49,16 @@ use Rattle.copy_tree.specs.declared.progress.Progress.{Progress}
 use Rattle.copy_tree.specs.declared.progress.Progress.TheVariants.{UnderWay, Decided, Anew}
 use Rattle.job_reports.specs.declared.report.StepResult.{StepResult}
 use Rattle.job_reports.specs.declared.report.Transfer.TheVariants.{ByCopy}
-use Rattle.copy_folders.specs.Levels.{IsLeft, levels_closed, dirtied_levels, is_around_dirty, level, made_levels, owes, passed_levels, with_copy}
+use Rattle.copy_folders.specs.Levels.{IsLeft, levels_closed, dirtied_levels, is_around_dirty}
+use Rattle.copy_folders.specs.Levels.{level, made_levels, owes, passed_levels, with_copy}
 use Rattle.copy_tree.specs.Parts.{IsPartPlace, IsShortPart}
 use Rattle.copy_tree.specs.Progress.{link_progress, progress}
 use Rattle.copy_tree.specs.Reports.{IsToldAs}
 use Rattle.copy_tree.specs.Standing.{Seen, after_report, due}
 use Rattle.copy_tree.specs.Taking.{AreShort, DueStops, IsInReach, IsShort, IsTaken, LooksStop}
 
--- a step can be made: a file or a link is at work while its part stands, and no part is left that could not be removed
+-- a step can be made: a file or a link is at work while its part stands, and no part is left
+-- that could not be removed
 abbrev pub IsWorkable : ItemAtWork → Type 0
 IsWorkable Next = ⊤
 IsWorkable (File f) = (progress f.stage ≡ UnderWay) × (left_at f.stage ≡ None)
@@ -70,7 +74,8 @@ stays_ready (link_stage.Clean follows) = true
 stays_ready link_stage.Again = true
 stays_ready link_stage.Decided = true
 
--- The copy of a file or a link goes on while its part stands; what is decided is passed; what is to be begun again is taken up anew.
+-- The copy of a file or a link goes on while its part stands; what is decided is passed; what is to be
+-- begun again is taken up anew.
 abbrev pub copy_after_progress : Progress → ItemAtWork → Seen → Seen
 copy_after_progress UnderWay item c = record c { item = item }
 copy_after_progress Decided item c = record c { levels = passed_levels false c.levels }
@@ -78,22 +83,26 @@ copy_after_progress Anew item c = c
 
 -- a name in the target of the folder that is worked was changed, if one was, and this was reported
 abbrev pub noted_copy : Did → Bool → Seen → Seen
-noted_copy did changed c = record c { stage = after_report did c.stage; levels = dirtied_levels changed c.levels }
+noted_copy did changed c =
+    record c { stage = after_report did c.stage; levels = dirtied_levels changed c.levels }
 
 -- where the copy stands after a step of a file's copy
 abbrev pub after_file : Did → Copying → Seen → Seen
-after_file did f c = copy_after_progress (progress f.stage) (File f) (noted_copy did (file.is_dirty f.folder) c)
+after_file did f c =
+    copy_after_progress (progress f.stage) (File f) (noted_copy did (file.is_dirty f.folder) c)
 
 -- where the copy stands after a step of a link's copy
 abbrev pub after_link : Did → LinkCopying → Seen → Seen
-after_link did l c = copy_after_progress (link_progress l.stage) (Link l) (noted_copy did (link.is_dirty l.folder) c)
+after_link did l c =
+    copy_after_progress (link_progress l.stage) (Link l) (noted_copy did (link.is_dirty l.folder) c)
 
 -- nothing is at work yet
 abbrev pub idle : Seen → Seen
 idle c = record c { item = Next }
 
 -- a step of this file's copy
-pub record FileWorks (unclaimed : Route → Type 0) (f : Copying) (old new : Seen) (did : Did) (before after : Option CallLog) : Type 0 where
+pub record FileWorks (unclaimed : Route → Type 0) (f : Copying) (old new : Seen) (did : Did)
+    (before after : Option CallLog) : Type 0 where
   pub moved : Copying
   pub tells : file.Tells f did moved
   pub called : IfKnown before (λ log. CopyCalls unclaimed f did moved log after)
@@ -103,7 +112,8 @@ pub record FileWorks (unclaimed : Route → Type 0) (f : Copying) (old new : See
   pub stands : new ≡ after_file did moved (idle old)
 
 -- a step of this link's copy
-pub record LinkWorks (l : LinkCopying) (old new : Seen) (did : Did) (before after : Option CallLog) : Type 0 where
+pub record LinkWorks (l : LinkCopying) (old new : Seen) (did : Did)
+    (before after : Option CallLog) : Type 0 where
   pub moved : LinkCopying
   pub tells : link.Tells l did moved
   pub called : IfKnown before (λ log. LinkCalls l did log after)
@@ -111,7 +121,8 @@ pub record LinkWorks (l : LinkCopying) (old new : Seen) (did : Did) (before afte
   pub stands : new ≡ after_link did moved (idle old)
 
 -- the first step of the copy of a file of which this is said: its part is made
-pub record FileBegins (unclaimed : Route → Type 0) (facts : SourceFacts) (f : Copying) (old new : Seen) (did : Did) (before after : Option CallLog) : Type 0 where
+pub record FileBegins (unclaimed : Route → Type 0) (facts : SourceFacts) (f : Copying) (old new : Seen)
+    (did : Did) (before after : Option CallLog) : Type 0 where
   pub moved : Copying
   pub tells : TellsMade facts f did moved
   pub called : IfKnown before (λ log. MadeCalls unclaimed facts f did log after)
@@ -124,42 +135,54 @@ abbrev pub is_top : Seen → Bool
 is_top c = is_empty c.levels.around
 
 -- a file is taken up
-pub record TakesFile (unclaimed : Route → Type 0) (replies : Replies) (old new : Seen) (did : Did) (before after : Option CallLog) : Type 0 where
+pub record TakesFile (unclaimed : Route → Type 0) (replies : Replies) (old new : Seen) (did : Did)
+    (before after : Option CallLog) : Type 0 where
   pub pair : Pair
   pub facts : SourceFacts
   pub next : due old ≡ Thing pair
   pub reach : IsInReach old.levels.left (Thing pair)
   pub is : IfKnown before (λ log. IsTaken (current log) (is_top old) replies pair (taken.File facts))
   pub range : HasRange facts
-  pub works : FileBegins unclaimed facts (file.begun_copy old.job pair.source pair.target) old new did before after
+  pub works : FileBegins unclaimed facts (file.begun_copy old.job pair.source pair.target) old new
+      did before after
 
 -- the copy of the link at these paths, by way of this part
 abbrev pub link_begun : Pair → Route → LinkCopying
-link_begun pair part = link.copying (link.places pair.source pair.target part) link_stage.Make names_state.Synced
+link_begun pair part =
+    link.copying (link.places pair.source pair.target part) link_stage.Make names_state.Synced
 
 -- a link is taken up; its part has the first name that is free
-pub record TakesLink (unclaimed : Route → Type 0) (replies : Replies) (old new : Seen) (did : Did) (before after : Option CallLog) : Type 0 where
+pub record TakesLink (unclaimed : Route → Type 0) (replies : Replies) (old new : Seen) (did : Did)
+    (before after : Option CallLog) : Type 0 where
   pub pair : Pair
   pub part : Route
   pub next : due old ≡ Thing pair
   pub reach : IsInReach old.levels.left (Thing pair)
   pub is : IfKnown before (λ log. IsTaken (current log) (is_top old) replies pair taken.Link)
-  pub chosen : IfKnown before (λ log. IsChosen (current log) unclaimed (file.places old.job pair.source pair.target) part)
+  pub chosen : IfKnown before (λ log.
+      IsChosen (current log) unclaimed (file.places old.job pair.source pair.target) part)
   pub short : IsShort part
   pub works : LinkWorks (link_begun pair part) old new did before after
 
 -- a folder is made, and gone into
-pub record FolderMakes (pair : Pair) (names : List (List ℕ)) (mode : ℕ) (old new : Seen) (did : Did) (before after : Option CallLog) : Type 0 where
+pub record FolderMakes (pair : Pair) (names : List (List ℕ)) (mode : ℕ) (old new : Seen) (did : Did)
+    (before after : Option CallLog) : Type 0 where
   pub few : length names ≤ 2 ^ 64
   pub moved : FolderCopying
   pub report : FolderDid
   pub says : IsToldAs report did
-  pub tells : folder.Tells (folder.copying pair.source pair.target (folder_stage.Make mode) folder_names.Synced) report moved
-  pub called : IfKnown before (λ log. FolderCalls (folder.copying pair.source pair.target (folder_stage.Make mode) folder_names.Synced) report log after)
-  pub stands : new ≡ record old { stage = after_report did old.stage; levels = made_levels moved.stage (opened_folder pair.source names) moved old.levels }
+  pub tells : folder.Tells
+      (folder.copying pair.source pair.target (folder_stage.Make mode) folder_names.Synced) report moved
+  pub called : IfKnown before (λ log. FolderCalls
+      (folder.copying pair.source pair.target (folder_stage.Make mode) folder_names.Synced) report log after)
+  pub stands : new ≡ record old {
+    stage = after_report did old.stage;
+    levels = made_levels moved.stage (opened_folder pair.source names) moved old.levels;
+  }
 
 -- a folder is taken up
-pub record TakesFolder (replies : Replies) (old new : Seen) (did : Did) (before after : Option CallLog) : Type 0 where
+pub record TakesFolder (replies : Replies) (old new : Seen) (did : Did)
+    (before after : Option CallLog) : Type 0 where
   pub pair : Pair
   pub names : List (List ℕ)
   pub mode : ℕ
@@ -169,8 +192,10 @@ pub record TakesFolder (replies : Replies) (old new : Seen) (did : Did) (before 
   pub in_order : IsAscending names
   pub works : FolderMakes pair names mode old new did before after
 
--- A folder is to be copied onto a folder: it is told that the two are merged, and the copy is done with it. What lies in it is copied by others.
-pub record TakesMerged (replies : Replies) (old new : Seen) (did : Did) (before after : Option CallLog) : Type 0 where
+-- A folder is to be copied onto a folder: it is told that the two are merged, and the copy is done with it.
+-- What lies in it is copied by others.
+pub record TakesMerged (replies : Replies) (old new : Seen) (did : Did)
+    (before after : Option CallLog) : Type 0 where
   pub pair : Pair
   pub names : List (List ℕ)
   pub next : due old ≡ Thing pair
@@ -184,8 +209,10 @@ pub record TakesMerged (replies : Replies) (old new : Seen) (did : Did) (before 
   pub same : after ≡ before
   pub stands : new ≡ record old { levels = passed_levels false old.levels }
 
--- What stands at the target of what is copied itself stays, by an answer that stands, and the copy is done with it.
-pub record TakesKept (replies : Replies) (old new : Seen) (did : Did) (before after : Option CallLog) : Type 0 where
+-- What stands at the target of what is copied itself stays, by an answer that stands, and
+-- the copy is done with it.
+pub record TakesKept (replies : Replies) (old new : Seen) (did : Did)
+    (before after : Option CallLog) : Type 0 where
   pub pair : Pair
   pub next : due old ≡ Thing pair
   pub reach : IsInReach old.levels.left (Thing pair)
@@ -195,8 +222,10 @@ pub record TakesKept (replies : Replies) (old new : Seen) (did : Did) (before af
   pub same : after ≡ before
   pub stands : new ≡ record old { levels = passed_levels false old.levels }
 
--- It is asked whether what is copied itself replaces what stands at its target; the copy stands where it stood.
-pub record TakesAsked (replies : Replies) (old new : Seen) (did : Did) (before after : Option CallLog) : Type 0 where
+-- It is asked whether what is copied itself replaces what stands at its target; the
+-- copy stands where it stood.
+pub record TakesAsked (replies : Replies) (old new : Seen) (did : Did)
+    (before after : Option CallLog) : Type 0 where
   pub pair : Pair
   pub question : Question
   pub next : due old ≡ Thing pair
@@ -238,18 +267,21 @@ WorksAtEnd old new did before after =
     × (((has_debt (at_end old) ≡ true) × FolderEnds (at_end old) new did before after)
     ⊎ ((has_debt (at_end old) ≡ false) × Finishes (at_end old) new did × (after ≡ before)))
 
--- A thing can't be taken up: it is out of reach; a look at it is stopped; it is a link for whose part there is no name; or there is no
--- memory.
+-- A thing can't be taken up: it is out of reach; a look at it is stopped; it is a link for whose part there
+-- is no name; or there is no memory.
 abbrev pub WhyStopped : (Route → Type 0) → Replies → Seen → Trouble → Option CallLog → Type 0
 WhyStopped unclaimed replies c t before =
     DueStops c t
-    ⊎ ((pair : Pair) × (due c ≡ Thing pair) × IsInReach c.levels.left (Thing pair) × IfKnown before (λ log. LooksStop (current log) c.stage (is_top c) pair t))
     ⊎ ((pair : Pair) × (due c ≡ Thing pair) × IsInReach c.levels.left (Thing pair)
-    × IfKnown before (λ log. IsTaken (current log) (is_top c) replies pair taken.Link × NameStops (current log) unclaimed (file.places c.job pair.source pair.target) t.cause t.path))
+    × IfKnown before (λ log. LooksStop (current log) c.stage (is_top c) pair t))
+    ⊎ ((pair : Pair) × (due c ≡ Thing pair) × IsInReach c.levels.left (Thing pair)
+    × IfKnown before (λ log. IsTaken (current log) (is_top c) replies pair taken.Link
+    × NameStops (current log) unclaimed (file.places c.job pair.source pair.target) t.cause t.path))
     ⊎ ((pair : Pair) × (due c ≡ Thing pair) × (t ≡ out_of_memory_at false))
 
 -- a trouble before any call that changes the tree
-pub record Stops (unclaimed : Route → Type 0) (replies : Replies) (old new : Seen) (did : Did) (before after : Option CallLog) : Type 0 where
+pub record Stops (unclaimed : Route → Type 0) (replies : Replies) (old new : Seen) (did : Did)
+    (before after : Option CallLog) : Type 0 where
   pub trouble : Trouble
   pub says : did ≡ common.Troubled trouble
   pub why : WhyStopped unclaimed replies old trouble before
@@ -268,10 +300,16 @@ pub record SyncsAround (old new : Seen) (did : Did) (before after : Option CallL
   pub says : IsToldAs report did
   pub tells : folder.Tells (at_sync outer.copy) report (record (at_sync outer.copy) { names = names })
   pub called : IfKnown before (λ log. FolderCalls (at_sync outer.copy) report log after)
-  pub stands : new ≡ record old { stage = after_report did old.stage; levels = record old.levels { around = level outer.names (record outer.copy { names = names }) ∷ around } }
+  pub stands : new ≡ record old {
+    stage = after_report did old.stage;
+    levels = record old.levels {
+      around = level outer.names (record outer.copy { names = names }) ∷ around;
+    };
+  }
 
 -- What a step does with the next name, or the end of a folder, in a folder that is on the disk.
-abbrev pub TakesNext : (Route → Type 0) → Replies → Seen → Seen → Did → Option CallLog → Option CallLog → Type 0
+abbrev pub TakesNext : (Route → Type 0) → Replies → Seen → Seen → Did → Option CallLog
+    → Option CallLog → Type 0
 TakesNext unclaimed replies old new did before after =
     Stops unclaimed replies old new did before after
     ⊎ TakesFile unclaimed replies old new did before after
@@ -282,13 +320,16 @@ TakesNext unclaimed replies old new did before after =
     ⊎ TakesAsked replies old new did before after
     ⊎ WorksAtEnd old new did before after
 
--- What a step does where nothing is at work: a folder that was made is brought onto the disk, and only then something is put into it.
+-- What a step does where nothing is at work: a folder that was made is brought onto the disk, and only then
+-- something is put into it.
 abbrev pub GoesOn : (Route → Type 0) → Replies → Seen → Seen → Did → Option CallLog → Option CallLog → Type 0
 GoesOn unclaimed replies old new did before after =
-    SyncsAround old new did before after ⊎ ((is_around_dirty old.levels.around ≡ false) × TakesNext unclaimed replies old new did before after)
+    SyncsAround old new did before after
+    ⊎ ((is_around_dirty old.levels.around ≡ false) × TakesNext unclaimed replies old new did before after)
 
 -- What a step does, by what is at work.
-abbrev pub WorksOn : ItemAtWork → (Route → Type 0) → Replies → Seen → Seen → Did → Option CallLog → Option CallLog → Type 0
+abbrev pub WorksOn : ItemAtWork → (Route → Type 0) → Replies → Seen → Seen → Did → Option CallLog
+    → Option CallLog → Type 0
 WorksOn Next unclaimed replies old new did before after = GoesOn unclaimed replies old new did before after
 WorksOn (File f) unclaimed replies old new did before after = FileWorks unclaimed f old new did before after
 WorksOn (Link l) unclaimed replies old new did before after = LinkWorks l old new did before after
@@ -296,10 +337,12 @@ WorksOn (Stays part) unclaimed replies old new did before after = ⊥
 
 -- there is no memory, and nothing was done
 abbrev pub RunsOut : Seen → Seen → Did → Option CallLog → Option CallLog → Type 0
-RunsOut old new did before after = (did ≡ common.Troubled (out_of_memory_at false)) × (new ≡ old) × (after ≡ before)
+RunsOut old new did before after =
+    (did ≡ common.Troubled (out_of_memory_at false)) × (new ≡ old) × (after ≡ before)
 
 -- A step counts its calls, at most three, and reports a fault only where the tree's count has risen.
-pub record Counts (did : Did) (calls : ℕ) (before after : Option CallLog) (faults faults_after : ℕ) : Type 0 where
+pub record Counts (did : Did) (calls : ℕ) (before after : Option CallLog)
+    (faults faults_after : ℕ) : Type 0 where
   pub counted : IfKnown before (λ log. IfKnown after (HasMore log calls))
   pub few : calls ≤ 3
   pub unknown : before ≡ None → after ≡ None
@@ -330,31 +373,44 @@ LeavesAll (suc n) old new = (mid : Seen) × LeavesAll n old mid × (mid.item ≡
 
 -- The next piece of a step at the end of a folder: it is left, or something is done that is reported.
 abbrev pub AdvancesEnd : Seen → Seen → Option StepResult → Option CallLog → Option CallLog → ℕ → ℕ → Type 0
-AdvancesEnd old new None before after faults faults_after = Leaves old new × (after ≡ before) × (faults ≤ faults_after)
+AdvancesEnd old new None before after faults faults_after =
+    Leaves old new × (after ≡ before) × (faults ≤ faults_after)
 AdvancesEnd old new (Some stepped) before after faults faults_after =
-    WorksAtEnd old new stepped.did before after × Counts stepped.did stepped.calls before after faults faults_after
+    WorksAtEnd old new stepped.did before after
+    × Counts stepped.did stepped.calls before after faults faults_after
 
--- The next piece of a step in a folder that is on the disk: a folder is left, or something is done that is reported.
-abbrev pub AdvancesIn : (Route → Type 0) → Replies → Seen → Seen → Option StepResult → Option CallLog → Option CallLog → ℕ → ℕ → Type 0
-AdvancesIn unclaimed replies old new None before after faults faults_after = Leaves old new × (after ≡ before) × (faults ≤ faults_after)
+-- The next piece of a step in a folder that is on the disk: a folder is left, or something
+-- is done that is reported.
+abbrev pub AdvancesIn : (Route → Type 0) → Replies → Seen → Seen → Option StepResult → Option CallLog
+    → Option CallLog → ℕ → ℕ → Type 0
+AdvancesIn unclaimed replies old new None before after faults faults_after =
+    Leaves old new × (after ≡ before) × (faults ≤ faults_after)
 AdvancesIn unclaimed replies old new (Some stepped) before after faults faults_after =
-    TakesNext unclaimed replies old new stepped.did before after × Counts stepped.did stepped.calls before after faults faults_after
+    TakesNext unclaimed replies old new stepped.did before after
+    × Counts stepped.did stepped.calls before after faults faults_after
 
 -- The next piece of a step where nothing is at work: a folder is left, or something is done that is reported.
-abbrev pub AdvancesNext : (Route → Type 0) → Replies → Seen → Seen → Option StepResult → Option CallLog → Option CallLog → ℕ → ℕ → Type 0
-AdvancesNext unclaimed replies old new None before after faults faults_after = Leaves old new × (after ≡ before) × (faults ≤ faults_after)
+abbrev pub AdvancesNext : (Route → Type 0) → Replies → Seen → Seen → Option StepResult → Option CallLog
+    → Option CallLog → ℕ → ℕ → Type 0
+AdvancesNext unclaimed replies old new None before after faults faults_after =
+    Leaves old new × (after ≡ before) × (faults ≤ faults_after)
 AdvancesNext unclaimed replies old new (Some stepped) before after faults faults_after =
-    GoesOn unclaimed replies old new stepped.did before after × Counts stepped.did stepped.calls before after faults faults_after
+    GoesOn unclaimed replies old new stepped.did before after
+    × Counts stepped.did stepped.calls before after faults faults_after
 
 -- the same of any piece of a step
-abbrev pub Advances : (Route → Bool) → Replies → Seen → Seen → Option StepResult → Option CallLog → Option CallLog → ℕ → ℕ → Type 0
-Advances free replies old new None before after faults faults_after = (old.item ≡ Next) × Leaves old new × (after ≡ before) × (faults ≤ faults_after)
+abbrev pub Advances : (Route → Bool) → Replies → Seen → Seen → Option StepResult → Option CallLog
+    → Option CallLog → ℕ → ℕ → Type 0
+Advances free replies old new None before after faults faults_after =
+    (old.item ≡ Next) × Leaves old new × (after ≡ before) × (faults ≤ faults_after)
 Advances free replies old new (Some stepped) before after faults faults_after =
-    WorksOn old.item (IsPartPlace free old) replies old new stepped.did before after × Counts stepped.did stepped.calls before after faults faults_after
+    WorksOn old.item (IsPartPlace free old) replies old new stepped.did before after
+    × Counts stepped.did stepped.calls before after faults faults_after
 
--- A step: folders that owe nothing are left, and then something is done that is reported. No job claims the path of a part that is begun, and
--- no thing has its name that is yet to be met.
-pub record CopySteps (free : Route → Bool) (replies : Replies) (old new : Seen) (did : Did) (calls : ℕ) (before after : Option CallLog) (faults faults_after : ℕ) : Type 0 where
+-- A step: folders that owe nothing are left, and then something is done that is reported. No job claims the
+-- path of a part that is begun, and no thing has its name that is yet to be met.
+pub record CopySteps (free : Route → Bool) (replies : Replies) (old new : Seen) (did : Did) (calls : ℕ)
+    (before after : Option CallLog) (faults faults_after : ℕ) : Type 0 where
   pub folders : ℕ
   pub mid : Seen
   pub leaves : LeavesAll folders old mid

@@ -1,4 +1,5 @@
--- The folder of the file or link at work is the one that is worked, so what a step marks as changed is the folder that it changed.
+-- The folder of the file or link at work is the one that is worked, so what a step marks as changed is
+-- the folder that it changed.
 use Rattle.std.specs.Prelude.{◌≡◌, ℕ, ⊤, Bool, true, Option}
 use Rattle.mc_text.specs.Routes.{Route}
 use Rattle.tree_trait.specs.Change.{CallLog}
@@ -26,7 +27,10 @@ IsInWorked c = ItemIn c.levels.inner.copy.target c.item
 -- A copy that begins is so, and each step, skip and retry keeps it.
 pub record WorkedFolderLaw : Type 0 where
   pub begins : (job : ℕ) (source target : Named) → IsInWorked (begun_tree_copy job source target)
-  pub step : (free : Route → Bool) (replies : Replies) (old new : Seen) (did : Did) (calls : ℕ) (before after : Option CallLog) (faults faults_after : ℕ)
-      → CopySteps free replies old new did calls before after faults faults_after → IsInWorked old → IsInWorked new
-  pub skip : (cause : Cause) (old new : Seen) (did : Did) → Skips cause old did new → IsInWorked old → IsInWorked new
+  pub step : (free : Route → Bool) (replies : Replies) (old new : Seen) (did : Did) (calls : ℕ)
+      (before after : Option CallLog) (faults faults_after : ℕ)
+      → CopySteps free replies old new did calls before after faults faults_after → IsInWorked old
+      → IsInWorked new
+  pub skip : (cause : Cause) (old new : Seen) (did : Did) → Skips cause old did new → IsInWorked old
+      → IsInWorked new
   pub retry : (old : Seen) → IsInWorked old → IsInWorked (retried_copy old)

@@ -1,5 +1,5 @@
-//! What comes of a thing that is no folder, by what stands at its target: only what is copied itself may replace a file or a link there, and
-//! it asks before.
+//! What comes of a thing that is no folder, by what stands at its target: only what is copied itself may
+//! replace a file or a link there, and it asks before.
 ghost use Rattle.std.specs.Prelude.{◌≡◌};
 ghost use Rattle.copy_tree.specs.Asking.{IsReplaceable};
 ghost use Rattle.job_reports.specs.Stops.{IsTroubleWithPath};

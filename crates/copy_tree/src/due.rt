@@ -34,7 +34,8 @@ impl TreeCopy {
 
     /// The thing at this path, unless it lies too deep.
     fn due_below(&self, alloc: Global, name: &Name, source: Path) -> Result<Due, Trouble>
-        requires next { self.now.stack.levels.inner.names.names ≡ name.now ∷ drop 1 self.now.stack.levels.inner.names.names }
+        requires next { self.now.stack.levels.inner.names.names ≡ name.now
+            ∷ drop 1 self.now.stack.levels.inner.names.names }
         requires source { source ≡ name.now ∷ self.now.stack.levels.inner.copy.source }
         requires short { IsShort source }
         ensures due { Dues (seen_copy self.now) result }

@@ -1,7 +1,8 @@
 //! The last steps of a copy that is to end early.
 ghost use Rattle.std.specs.Prelude.{◌≡◌, ◌≤◌, None, Some, true};
 ghost use Rattle.copy_link.specs.LinkCopying.{is_removable};
-ghost use Rattle.copy_tree.specs.Ending.{FileWinds, FoldersWind, IsWindable, LinkWinds, WindsAfter, WindsAt, stays_if};
+ghost use Rattle.copy_tree.specs.Ending.{FileWinds, FoldersWind, IsWindable};
+ghost use Rattle.copy_tree.specs.Ending.{LinkWinds, WindsAfter, WindsAt, stays_if};
 ghost use Rattle.copy_folders.specs.Levels.{dirtied_levels};
 ghost use Rattle.copy_tree.specs.Standing.{seen_copy};
 
@@ -16,8 +17,9 @@ use std::mem;
 use tree_trait::Tree;
 
 impl TreeCopy {
-    /// Makes the next of the last steps of a job that is to end so: the part is removed, if it can be; each folder that is dirty is
-    /// tried once to be synced, the inner ones first; and then it ends. None of them takes memory of its own.
+    /// Makes the next of the last steps of a job that is to end so: the part is removed, if it can be; each
+    /// folder that is dirty is tried once to be synced, the inner ones first; and then it ends. None of
+    /// them takes memory of its own.
     pub fn wind_up<T: Tree>(
         &mut self,
         alloc: Global,
@@ -94,7 +96,8 @@ impl TreeCopy {
     fn tell_cleaned(&mut self, part: Path, calls: u64) -> LastStepResult
         requires free { self.old.item ≡ ItemAtWork.Next }
         ensures said { result ≡ record { did = Did.Cleaned part; calls = calls; left = None } }
-        ensures stands { seen_copy self.new ≡ record (seen_copy self.old) { levels = dirtied_levels true self.old.stack.levels } }
+        ensures stands { seen_copy self.new
+            ≡ record (seen_copy self.old) { levels = dirtied_levels true self.old.stack.levels } }
         ensures windable { IsWindable self.new.item }
     {
         self.stack.mark_dirty_if(true);

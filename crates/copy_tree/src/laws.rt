@@ -11,7 +11,8 @@ pub fn a_copy_begins_in_its_place()
     ensures { BeginningLaw }
 {}
 
-/// A copy keeps to its place: what it places, makes and gives a mode is the target of a thing at or below its source.
+/// A copy keeps to its place: what it places, makes and gives a mode is the target of a
+/// thing at or below its source.
 pub fn a_copy_keeps_to_its_place()
     ensures { PlaceLaw }
 {}
@@ -26,7 +27,8 @@ pub fn skips_and_last_steps_keep_a_copy_in_its_place()
     ensures { StayingLaw }
 {}
 
-/// A copy changes nothing but the targets of what lies at or below its source, and parts beside them: which calls its steps make.
+/// A copy changes nothing but the targets of what lies at or below its source, and parts beside them:
+/// which calls its steps make.
 pub fn a_copy_changes_targets_and_their_parts_alone()
     ensures { CallLaw }
 {}
@@ -36,8 +38,8 @@ pub fn what_is_at_work_lies_in_the_folder_that_is_worked()
     ensures { WorkedFolderLaw }
 {}
 
-/// A folder that was made is on the disk before anything is put into it: of the folders around the innermost only the nearest may be
-/// dirty, and only that long.
+/// A folder that was made is on the disk before anything is put into it: of the folders around the
+/// innermost only the nearest may be dirty, and only that long.
 pub fn a_made_folder_is_on_the_disk_before_it_is_filled()
     ensures { OnDiskLaw }
 {}

@@ -9,8 +9,10 @@ ghost use Rattle.tree_trait.specs.FileSystem.{node};
 ghost use Rattle.tree_trait.specs.Change.{found_node};
 ghost use Rattle.job_reports.specs.Reading.{Peeks};
 ghost use Rattle.copy_tree.specs.Judging.{IsNoFolder};
-ghost use Rattle.copy_tree.specs.Taking.{AreShort, FolderStops, IsShort, IsShown, IsSound, Lists, Looks, MayTake, SourceIs};
-ghost use Rattle.copy_tree.specs.Merging.{AreChildrenOr, IsChildOr, IsFreshOnto, IsOnto, IsOntoKind, NamesStop, OntoStops, joins_folders};
+ghost use Rattle.copy_tree.specs.Taking.{AreShort, FolderStops, IsShort, IsShown};
+ghost use Rattle.copy_tree.specs.Taking.{IsSound, Lists, Looks, MayTake, SourceIs};
+ghost use Rattle.copy_tree.specs.Merging.{AreChildrenOr, IsChildOr, IsFreshOnto, IsOnto};
+ghost use Rattle.copy_tree.specs.Merging.{IsOntoKind, NamesStop, OntoStops, joins_folders};
 
 use crate::asking::{Asks, judge};
 use crate::copy::Stage;
@@ -38,7 +40,8 @@ pub enum Taken {
     Asked(Question),
 }
 
-/// Looks at source and target; a folder is listed. A folder onto a folder is merged by a copy that stands at its beginning.
+/// Looks at source and target; a folder is listed. A folder onto a folder is merged by a copy that
+/// stands at its beginning.
 pub(crate) fn look_at_pair<T: Tree>(
     alloc: Global,
     tree: &mut T,
@@ -46,10 +49,12 @@ pub(crate) fn look_at_pair<T: Tree>(
     stage: Stage,
     asks: Asks,
 ) -> Result<Taken, Trouble>
-    ensures known { IfKnown (T.contents tree.old) (λ log. Looks (current log) stage asks.top asks.replies pair.now result) }
+    ensures known { IfKnown (T.contents tree.old) (λ log.
+        Looks (current log) stage asks.top asks.replies pair.now result) }
     ensures sound { IfOk result IsSound }
     ensures may { IfOk result (MayTake stage asks.top pair.now) }
-    ensures peeks { Peeks result (T.contents tree.old) (T.contents tree.new) (T.fault_count tree.old) (T.fault_count tree.new) }
+    ensures peeks { Peeks result (T.contents tree.old) (T.contents tree.new) (T.fault_count tree.old)
+        (T.fault_count tree.new) }
 {
     match look(alloc, tree, &pair.source) {
         Ok(meta) => look_on(alloc, tree, pair, stage, asks, meta),
@@ -66,12 +71,16 @@ fn look_on<T: Tree>(
     asks: Asks,
     source: Meta,
 ) -> Result<Taken, Trouble>
-    requires known { IfKnown (T.contents tree.old) (λ log. (refusal_of (current log) (Stat pair.now.source) ≡ None) × IsMeta (current log) pair.now.source source) }
+    requires known { IfKnown (T.contents tree.old) (λ log.
+        (refusal_of (current log) (Stat pair.now.source) ≡ None)
+        × IsMeta (current log) pair.now.source source) }
     requires range { IsInRange source }
-    ensures known { IfKnown (T.contents tree.old) (λ log. Looks (current log) stage asks.top asks.replies pair.now result) }
+    ensures known { IfKnown (T.contents tree.old) (λ log.
+        Looks (current log) stage asks.top asks.replies pair.now result) }
     ensures sound { IfOk result IsSound }
     ensures may { IfOk result (MayTake stage asks.top pair.now) }
-    ensures peeks { Peeks result (T.contents tree.old) (T.contents tree.new) (T.fault_count tree.old) (T.fault_count tree.new) }
+    ensures peeks { Peeks result (T.contents tree.old) (T.contents tree.new) (T.fault_count tree.old)
+        (T.fault_count tree.new) }
 {
     match source.kind {
         Kind::Folder => look_at_folder(alloc, tree, pair, stage, asks, source.mode),
@@ -90,13 +99,17 @@ fn look_at_single<T: Tree>(
     asks: Asks,
     source: Meta,
 ) -> Result<Taken, Trouble>
-    requires known { IfKnown (T.contents tree.old) (λ log. (refusal_of (current log) (Stat pair.now.source) ≡ None) × IsMeta (current log) pair.now.source source) }
+    requires known { IfKnown (T.contents tree.old) (λ log.
+        (refusal_of (current log) (Stat pair.now.source) ≡ None)
+        × IsMeta (current log) pair.now.source source) }
     requires range { IsInRange source }
     requires single { IsNoFolder source.kind }
-    ensures known { IfKnown (T.contents tree.old) (λ log. Looks (current log) stage asks.top asks.replies pair.now result) }
+    ensures known { IfKnown (T.contents tree.old) (λ log.
+        Looks (current log) stage asks.top asks.replies pair.now result) }
     ensures sound { IfOk result IsSound }
     ensures may { IfOk result (MayTake stage asks.top pair.now) }
-    ensures peeks { Peeks result (T.contents tree.old) (T.contents tree.new) (T.fault_count tree.old) (T.fault_count tree.new) }
+    ensures peeks { Peeks result (T.contents tree.old) (T.contents tree.new) (T.fault_count tree.old)
+        (T.fault_count tree.new) }
 {
     match look_at_target(alloc, tree, &pair.target) {
         Ok(target) => judge(alloc, pair, asks, source, target),
@@ -112,12 +125,15 @@ fn look_at_folder<T: Tree>(
     asks: Asks,
     mode: u16,
 ) -> Result<Taken, Trouble>
-    requires known { IfKnown (T.contents tree.old) (λ log. SourceIs (current log) pair.now kind.Folder × (mode ≡ (node (current log) (found_node (current log) pair.now.source)).mode)) }
+    requires known { IfKnown (T.contents tree.old) (λ log. SourceIs (current log) pair.now kind.Folder
+        × (mode ≡ (node (current log) (found_node (current log) pair.now.source)).mode)) }
     requires mode { mode ≤ 0o7777 }
-    ensures known { IfKnown (T.contents tree.old) (λ log. Looks (current log) stage asks.top asks.replies pair.now result) }
+    ensures known { IfKnown (T.contents tree.old) (λ log.
+        Looks (current log) stage asks.top asks.replies pair.now result) }
     ensures sound { IfOk result IsSound }
     ensures may { IfOk result (MayTake stage asks.top pair.now) }
-    ensures peeks { Peeks result (T.contents tree.old) (T.contents tree.new) (T.fault_count tree.old) (T.fault_count tree.new) }
+    ensures peeks { Peeks result (T.contents tree.old) (T.contents tree.new) (T.fault_count tree.old)
+        (T.fault_count tree.new) }
 {
     match folder_target(alloc, tree, pair, stage) {
         Ok(onto) => list_folder(alloc, tree, pair, stage, asks, mode, onto),
@@ -139,9 +155,11 @@ fn folder_target<T: Tree>(
     pair: &Pair,
     stage: Stage,
 ) -> Result<Onto, Trouble>
-    ensures known { IfKnown (T.contents tree.old) (λ log. MatchResult result (IsOnto (current log) pair.now) (OntoStops (current log) stage pair.now)) }
+    ensures known { IfKnown (T.contents tree.old) (λ log.
+        MatchResult result (IsOnto (current log) pair.now) (OntoStops (current log) stage pair.now)) }
     ensures fresh { IfOk result (IsFreshOnto stage) }
-    ensures peeks { Peeks result (T.contents tree.old) (T.contents tree.new) (T.fault_count tree.old) (T.fault_count tree.new) }
+    ensures peeks { Peeks result (T.contents tree.old) (T.contents tree.new) (T.fault_count tree.old)
+        (T.fault_count tree.new) }
 {
     match look_at_target(alloc, tree, &pair.target) {
         Ok(None) => Ok(Onto::Nothing),
@@ -185,14 +203,17 @@ fn list_folder<T: Tree>(
     mode: u16,
     onto: Onto,
 ) -> Result<Taken, Trouble>
-    requires known { IfKnown (T.contents tree.old) (λ log. SourceIs (current log) pair.now kind.Folder × (mode ≡ (node (current log) (found_node (current log) pair.now.source)).mode)) }
+    requires known { IfKnown (T.contents tree.old) (λ log. SourceIs (current log) pair.now kind.Folder
+        × (mode ≡ (node (current log) (found_node (current log) pair.now.source)).mode)) }
     requires mode { mode ≤ 0o7777 }
     requires onto { IfKnown (T.contents tree.old) (λ log. IsOnto (current log) pair.now onto) }
     requires fresh { IsFreshOnto stage onto }
-    ensures known { IfKnown (T.contents tree.old) (λ log. Looks (current log) stage asks.top asks.replies pair.now result) }
+    ensures known { IfKnown (T.contents tree.old) (λ log.
+        Looks (current log) stage asks.top asks.replies pair.now result) }
     ensures sound { IfOk result IsSound }
     ensures may { IfOk result (MayTake stage asks.top pair.now) }
-    ensures peeks { Peeks result (T.contents tree.old) (T.contents tree.new) (T.fault_count tree.old) (T.fault_count tree.new) }
+    ensures peeks { Peeks result (T.contents tree.old) (T.contents tree.new) (T.fault_count tree.old)
+        (T.fault_count tree.new) }
 {
     match onto {
         Onto::Nothing => match names_in(alloc, tree, &pair.source) {
@@ -206,13 +227,15 @@ fn list_folder<T: Tree>(
     }
 }
 
-/// The names in a folder that is to be merged with the one at its target: all can be shown, and the paths of what has them can be told, and so can
-/// those of their targets.
+/// The names in a folder that is to be merged with the one at its target: all can be shown, and the paths
+/// of what has them can be told, and so can those of their targets.
 pub fn names_to_merge<T: Tree>(alloc: Global, tree: &mut T, pair: &Pair) -> Result<Names, Trouble>
-    ensures known { IfKnown (T.contents tree.old) (λ log. MatchResult result (Lists (current log) pair.now.source) (NamesStop (current log) pair.now)) }
+    ensures known { IfKnown (T.contents tree.old) (λ log.
+        MatchResult result (Lists (current log) pair.now.source) (NamesStop (current log) pair.now)) }
     ensures short { IfOk result (AreShort pair.now) }
     ensures in_order { IfOk result IsAscending }
-    ensures peeks { Peeks result (T.contents tree.old) (T.contents tree.new) (T.fault_count tree.old) (T.fault_count tree.new) }
+    ensures peeks { Peeks result (T.contents tree.old) (T.contents tree.new) (T.fault_count tree.old)
+        (T.fault_count tree.new) }
 {
     let names = match names_in(alloc, tree, &pair.source) {
         Ok(names) => names,
@@ -262,9 +285,11 @@ fn target_of_child(alloc: Global, pair: &Pair, name: &Name, source: &Path) -> Re
 
 /// The names in a folder, all of which can be shown.
 fn names_in<T: Tree>(alloc: Global, tree: &mut T, folder: &Path) -> Result<Names, Trouble>
-    ensures known { IfKnown (T.contents tree.old) (λ log. MatchResult result (Lists (current log) folder.now) (FolderStops (current log) folder.now)) }
+    ensures known { IfKnown (T.contents tree.old) (λ log.
+        MatchResult result (Lists (current log) folder.now) (FolderStops (current log) folder.now)) }
     ensures in_order { IfOk result IsAscending }
-    ensures peeks { Peeks result (T.contents tree.old) (T.contents tree.new) (T.fault_count tree.old) (T.fault_count tree.new) }
+    ensures peeks { Peeks result (T.contents tree.old) (T.contents tree.new) (T.fault_count tree.old)
+        (T.fault_count tree.new) }
 {
     match tree.list(alloc, folder) {
         Ok(children) => shown(alloc, folder, children),

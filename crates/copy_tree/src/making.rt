@@ -2,7 +2,8 @@
 ghost use Rattle.std.specs.Prelude.{◌≡◌, ◌⊎◌, ◌≤◌, false, true};
 ghost use Rattle.copy_folders.specs.Levels.{is_around_dirty};
 ghost use Rattle.copy_tree.specs.Standing.{due, seen_copy};
-ghost use Rattle.copy_tree.specs.TreeCopySteps.{AdvancesEnd, Counts, FolderEnds, FolderMakes, IsWorkable, LeavesOrFinishes, RunsOut, SyncsAround, has_debt};
+ghost use Rattle.copy_tree.specs.TreeCopySteps.{AdvancesEnd, Counts, FolderEnds, FolderMakes, IsWorkable};
+ghost use Rattle.copy_tree.specs.TreeCopySteps.{LeavesOrFinishes, RunsOut, SyncsAround, has_debt};
 ghost use Rattle.copy_tree.specs.Taking.{IsInReach};
 
 use crate::copy::TreeCopy;
@@ -29,9 +30,12 @@ impl TreeCopy {
         requires free { self.old.item ≡ ItemAtWork.Next }
         requires reach { IsInReach self.old.stack.levels.left (Due.Thing pair) }
         requires mode { mode ≤ 0o7777 }
-        ensures works { RunsOut (seen_copy self.old) (seen_copy self.new) result.did (T.contents tree.old) (T.contents tree.new)
-            ⊎ FolderMakes pair names mode (seen_copy self.old) (seen_copy self.new) result.did (T.contents tree.old) (T.contents tree.new) }
-        ensures counts { Counts result.did result.calls (T.contents tree.old) (T.contents tree.new) (T.fault_count tree.old) (T.fault_count tree.new) }
+        ensures works { RunsOut (seen_copy self.old) (seen_copy self.new) result.did (T.contents tree.old)
+            (T.contents tree.new)
+            ⊎ FolderMakes pair names mode (seen_copy self.old) (seen_copy self.new) result.did
+            (T.contents tree.old) (T.contents tree.new) }
+        ensures counts { Counts result.did result.calls (T.contents tree.old) (T.contents tree.new)
+            (T.fault_count tree.old) (T.fault_count tree.new) }
         ensures workable { IsWorkable self.new.item }
     {
         let Ok(source) = pair.source.copy(alloc) else {
@@ -55,8 +59,10 @@ impl TreeCopy {
     pub(crate) fn sync_around<T: Tree>(&mut self, alloc: Global, tree: &mut T) -> StepResult
         requires free { self.old.item ≡ ItemAtWork.Next }
         requires dirty { is_around_dirty self.old.stack.levels.around ≡ true }
-        ensures works { SyncsAround (seen_copy self.old) (seen_copy self.new) result.did (T.contents tree.old) (T.contents tree.new) }
-        ensures counts { Counts result.did result.calls (T.contents tree.old) (T.contents tree.new) (T.fault_count tree.old) (T.fault_count tree.new) }
+        ensures works { SyncsAround (seen_copy self.old) (seen_copy self.new) result.did (T.contents tree.old)
+            (T.contents tree.new) }
+        ensures counts { Counts result.did result.calls (T.contents tree.old) (T.contents tree.new)
+            (T.fault_count tree.old) (T.fault_count tree.new) }
         ensures workable { IsWorkable self.new.item }
     {
         let stepped = self.stack.sync_around(alloc, tree);
@@ -89,8 +95,10 @@ impl TreeCopy {
     fn finish_folder<T: Tree>(&mut self, alloc: Global, tree: &mut T) -> StepResult
         requires free { self.old.item ≡ ItemAtWork.Next }
         requires owes { has_debt (seen_copy self.old) ≡ true }
-        ensures works { FolderEnds (seen_copy self.old) (seen_copy self.new) result.did (T.contents tree.old) (T.contents tree.new) }
-        ensures counts { Counts result.did result.calls (T.contents tree.old) (T.contents tree.new) (T.fault_count tree.old) (T.fault_count tree.new) }
+        ensures works { FolderEnds (seen_copy self.old) (seen_copy self.new) result.did (T.contents tree.old)
+            (T.contents tree.new) }
+        ensures counts { Counts result.did result.calls (T.contents tree.old) (T.contents tree.new)
+            (T.fault_count tree.old) (T.fault_count tree.new) }
         ensures workable { IsWorkable self.new.item }
     {
         let stepped = self.stack.step_folder(alloc, tree);

@@ -10,8 +10,8 @@ use copy_folders::Stack;
 use job_reports::PartTest;
 use mc_text::{Name, Path};
 
-/// The paths that a part may take in the folder that is worked: those that the given test allows, and whose name no thing has that is yet
-/// to be met there. What is copied has the name `top` at its target.
+/// The paths that a part may take in the folder that is worked: those that the given test allows, and whose
+/// name no thing has that is yet to be met there. What is copied has the name `top` at its target.
 #[derive(Drop)]
 pub(crate) struct PartPlaces<'a, P> {
     pub(crate) given: &'a P,
@@ -25,7 +25,8 @@ impl<'a, P: PartTest> PartTest for PartPlaces<'a, P> {
     ghost use Rattle.copy_tree.specs.Parts.{is_named_in};
 
     ghost is_free = { λ places path. P.is_free places.given.now path
-        && not (is_named_in (coming places.top.now places.stack.now.levels.inner.names places.stack.now.levels.around) path) };
+        && not (is_named_in
+        (coming places.top.now places.stack.now.levels.inner.names places.stack.now.levels.around) path) };
 
     fn free(&self, path: &Path) -> bool {
         self.given.free(path) && !is_coming(self.stack, self.top, path)
@@ -34,7 +35,8 @@ impl<'a, P: PartTest> PartTest for PartPlaces<'a, P> {
 
 /// Whether a thing that is yet to be met has the name of this path.
 fn is_coming(stack: &Stack, top: &Name, path: &Path) -> bool
-    ensures { result ≡ is_named_in (coming top.now stack.now.levels.inner.names stack.now.levels.around) path.now }
+    ensures { result ≡ is_named_in
+        (coming top.now stack.now.levels.inner.names stack.now.levels.around) path.now }
 {
     match last_name(path) {
         Some(name) => stack.is_coming(top, name),

@@ -1,7 +1,8 @@
 //! What is left as it is, and what is tried again.
 ghost use Rattle.std.specs.Prelude.{◌≡◌, None, true};
 ghost use Rattle.copy_file.specs.LastSteps.{left_at};
-ghost use Rattle.copy_tree.specs.Skipping.{Skips, SkipsFile, SkipsLink, SkipsNext, SkipsRest, retried_copy, retried_file, retried_link};
+ghost use Rattle.copy_tree.specs.Skipping.{Skips, SkipsFile, SkipsLink, SkipsNext, SkipsRest};
+ghost use Rattle.copy_tree.specs.Skipping.{retried_copy, retried_file, retried_link};
 ghost use Rattle.copy_tree.specs.Standing.{seen_copy};
 ghost use Rattle.copy_tree.specs.TreeCopySteps.{IsWorkable, stays_ready};
 
@@ -89,7 +90,8 @@ impl TreeCopy {
 }
 
 impl TreeCopy {
-    /// What was refused is tried again. A file or a link whose part stands is copied anew, once that was removed.
+    /// What was refused is tried again. A file or a link whose part stands is copied
+    /// anew, once that was removed.
     pub fn retry(&mut self)
         requires workable { IsWorkable self.old.item }
         ensures retried { seen_copy self.new ≡ retried_copy (seen_copy self.old) }

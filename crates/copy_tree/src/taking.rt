@@ -8,7 +8,8 @@ ghost use Rattle.copy_file.specs.declared.stage.Stage.TheVariants as FileStage;
 ghost use Rattle.copy_folders.specs.Levels.{is_around_dirty, passed_levels};
 ghost use Rattle.copy_tree.specs.Parts.{IsPartPlace};
 ghost use Rattle.copy_tree.specs.Standing.{due, seen_copy};
-ghost use Rattle.copy_tree.specs.TreeCopySteps.{AdvancesIn, AdvancesNext, Counts, FileBegins, IsWorkable, LinkWorks, RunsOut, TakesNext, is_top, link_begun};
+ghost use Rattle.copy_tree.specs.TreeCopySteps.{AdvancesIn, AdvancesNext, Counts, FileBegins, IsWorkable};
+ghost use Rattle.copy_tree.specs.TreeCopySteps.{LinkWorks, RunsOut, TakesNext, is_top, link_begun};
 ghost use Rattle.copy_tree.specs.Taking.{IsInReach, IsSound, IsTaken, MayTake};
 
 use crate::asking::Asks;
@@ -27,7 +28,8 @@ use std::alloc::Global;
 use tree_trait::Tree;
 
 impl TreeCopy {
-    /// A folder that was made is brought onto the disk; else the next name comes, or the end of the folder that is worked.
+    /// A folder that was made is brought onto the disk; else the next name comes, or the end of
+    /// the folder that is worked.
     pub(crate) fn go_on<T: Tree, P: PartTest>(
         &mut self,
         alloc: Global,
@@ -36,7 +38,8 @@ impl TreeCopy {
         replies: Replies,
     ) -> Option<StepResult>
         requires free { self.old.item ≡ ItemAtWork.Next }
-        ensures advances { AdvancesNext (IsPartPlace (P.is_free parts.now) (seen_copy self.old)) replies (seen_copy self.old) (seen_copy self.new) result
+        ensures advances { AdvancesNext (IsPartPlace (P.is_free parts.now) (seen_copy self.old)) replies
+            (seen_copy self.old) (seen_copy self.new) result
             (T.contents tree.old) (T.contents tree.new) (T.fault_count tree.old) (T.fault_count tree.new) }
         ensures workable { IsWorkable self.new.item }
     {
@@ -57,7 +60,8 @@ impl TreeCopy {
     ) -> Option<StepResult>
         requires free { self.old.item ≡ ItemAtWork.Next }
         requires synced { is_around_dirty self.old.stack.levels.around ≡ false }
-        ensures advances { AdvancesIn (IsPartPlace (P.is_free parts.now) (seen_copy self.old)) replies (seen_copy self.old) (seen_copy self.new) result
+        ensures advances { AdvancesIn (IsPartPlace (P.is_free parts.now) (seen_copy self.old)) replies
+            (seen_copy self.old) (seen_copy self.new) result
             (T.contents tree.old) (T.contents tree.new) (T.fault_count tree.old) (T.fault_count tree.new) }
         ensures workable { IsWorkable self.new.item }
     {
@@ -79,7 +83,8 @@ impl TreeCopy {
         requires synced { is_around_dirty self.old.stack.levels.around ≡ false }
         requires next { next ≡ due (seen_copy self.old) }
         requires reach { IsInReach self.old.stack.levels.left next }
-        ensures advances { AdvancesIn (IsPartPlace (P.is_free parts.now) (seen_copy self.old)) replies (seen_copy self.old) (seen_copy self.new) result
+        ensures advances { AdvancesIn (IsPartPlace (P.is_free parts.now) (seen_copy self.old)) replies
+            (seen_copy self.old) (seen_copy self.new) result
             (T.contents tree.old) (T.contents tree.new) (T.fault_count tree.old) (T.fault_count tree.new) }
         ensures workable { IsWorkable self.new.item }
     {
@@ -101,8 +106,10 @@ impl TreeCopy {
         requires free { self.old.item ≡ ItemAtWork.Next }
         requires next { due (seen_copy self.old) ≡ Due.Thing pair }
         requires reach { IsInReach self.old.stack.levels.left (Due.Thing pair) }
-        ensures works { TakesNext (IsPartPlace (P.is_free parts.now) (seen_copy self.old)) replies (seen_copy self.old) (seen_copy self.new) result.did (T.contents tree.old) (T.contents tree.new) }
-        ensures counts { Counts result.did result.calls (T.contents tree.old) (T.contents tree.new) (T.fault_count tree.old) (T.fault_count tree.new) }
+        ensures works { TakesNext (IsPartPlace (P.is_free parts.now) (seen_copy self.old)) replies
+            (seen_copy self.old) (seen_copy self.new) result.did (T.contents tree.old) (T.contents tree.new) }
+        ensures counts { Counts result.did result.calls (T.contents tree.old) (T.contents tree.new)
+            (T.fault_count tree.old) (T.fault_count tree.new) }
         ensures workable { IsWorkable self.new.item }
     {
         let asks = Asks {
@@ -128,11 +135,14 @@ impl TreeCopy {
         requires free { self.old.item ≡ ItemAtWork.Next }
         requires next { due (seen_copy self.old) ≡ Due.Thing pair }
         requires reach { IsInReach self.old.stack.levels.left (Due.Thing pair) }
-        requires known { IfKnown (T.contents tree.old) (λ log. IsTaken (current log) (is_top (seen_copy self.old)) replies pair taken) }
+        requires known { IfKnown (T.contents tree.old) (λ log.
+            IsTaken (current log) (is_top (seen_copy self.old)) replies pair taken) }
         requires sound { IsSound taken }
         requires may { MayTake self.old.stage (is_top (seen_copy self.old)) pair taken }
-        ensures works { TakesNext (IsPartPlace (P.is_free parts.now) (seen_copy self.old)) replies (seen_copy self.old) (seen_copy self.new) result.did (T.contents tree.old) (T.contents tree.new) }
-        ensures counts { Counts result.did result.calls (T.contents tree.old) (T.contents tree.new) (T.fault_count tree.old) (T.fault_count tree.new) }
+        ensures works { TakesNext (IsPartPlace (P.is_free parts.now) (seen_copy self.old)) replies
+            (seen_copy self.old) (seen_copy self.new) result.did (T.contents tree.old) (T.contents tree.new) }
+        ensures counts { Counts result.did result.calls (T.contents tree.old) (T.contents tree.new)
+            (T.fault_count tree.old) (T.fault_count tree.new) }
         ensures workable { IsWorkable self.new.item }
     {
         match taken {
@@ -148,7 +158,8 @@ impl TreeCopy {
     /// The two folders are merged: what lies in the source is copied by others, so the copy is done with it.
     fn merge(&mut self, pair: Pair, names: Names) -> StepResult
         requires next { due (seen_copy self.old) ≡ Due.Thing pair }
-        ensures passed { seen_copy self.new ≡ record (seen_copy self.old) { levels = passed_levels false self.old.stack.levels } }
+        ensures passed { seen_copy self.new
+            ≡ record (seen_copy self.old) { levels = passed_levels false self.old.stack.levels } }
         ensures told { result ≡ record { did = Did.Merges Transfer.ByCopy pair names; calls = 0 } }
         ensures few { length names ≤ 2 ^ 64 }
     {
@@ -163,7 +174,8 @@ impl TreeCopy {
     /// What stands at the target stays, so the copy is done with it.
     fn keep(&mut self, pair: Pair) -> StepResult
         requires next { due (seen_copy self.old) ≡ Due.Thing pair }
-        ensures passed { seen_copy self.new ≡ record (seen_copy self.old) { levels = passed_levels false self.old.stack.levels } }
+        ensures passed { seen_copy self.new
+            ≡ record (seen_copy self.old) { levels = passed_levels false self.old.stack.levels } }
         ensures told { result ≡ record { did = Did.Kept pair.target; calls = 0 } }
     {
         self.stack.pass(false);
@@ -185,9 +197,13 @@ impl TreeCopy {
         requires free { self.old.item ≡ ItemAtWork.Next }
         requires next { due (seen_copy self.old) ≡ Due.Thing pair }
         requires range { HasRange facts }
-        ensures works { RunsOut (seen_copy self.old) (seen_copy self.new) result.did (T.contents tree.old) (T.contents tree.new)
-            ⊎ FileBegins (IsPartPlace (P.is_free parts.now) (seen_copy self.old)) facts (file_begun self.old.job pair.source pair.target) (seen_copy self.old) (seen_copy self.new) result.did (T.contents tree.old) (T.contents tree.new) }
-        ensures counts { Counts result.did result.calls (T.contents tree.old) (T.contents tree.new) (T.fault_count tree.old) (T.fault_count tree.new) }
+        ensures works { RunsOut (seen_copy self.old) (seen_copy self.new) result.did (T.contents tree.old)
+            (T.contents tree.new)
+            ⊎ FileBegins (IsPartPlace (P.is_free parts.now) (seen_copy self.old))
+            facts (file_begun self.old.job pair.source pair.target) (seen_copy self.old) (seen_copy self.new)
+            result.did (T.contents tree.old) (T.contents tree.new) }
+        ensures counts { Counts result.did result.calls (T.contents tree.old) (T.contents tree.new)
+            (T.fault_count tree.old) (T.fault_count tree.new) }
         ensures workable { IsWorkable self.new.item }
     {
         match self.file_copy(alloc, pair) {
@@ -208,8 +224,10 @@ impl TreeCopy {
         requires free { self.old.item ≡ ItemAtWork.Next }
         requires stage { copy.stage ≡ FileStage.Begin }
         requires range { HasRange facts }
-        ensures works { FileBegins (IsPartPlace (P.is_free parts.now) (seen_copy self.old)) facts copy (seen_copy self.old) (seen_copy self.new) result.did (T.contents tree.old) (T.contents tree.new) }
-        ensures counts { Counts result.did result.calls (T.contents tree.old) (T.contents tree.new) (T.fault_count tree.old) (T.fault_count tree.new) }
+        ensures works { FileBegins (IsPartPlace (P.is_free parts.now) (seen_copy self.old)) facts copy
+            (seen_copy self.old) (seen_copy self.new) result.did (T.contents tree.old) (T.contents tree.new) }
+        ensures counts { Counts result.did result.calls (T.contents tree.old) (T.contents tree.new)
+            (T.fault_count tree.old) (T.fault_count tree.new) }
         ensures workable { IsWorkable self.new.item }
     {
         let mut copy = copy;
@@ -245,9 +263,12 @@ impl TreeCopy {
         requires free { self.old.item ≡ ItemAtWork.Next }
         requires next { due (seen_copy self.old) ≡ Due.Thing pair }
         requires reach { IsInReach self.old.stack.levels.left (Due.Thing pair) }
-        requires taken { IfKnown (T.contents tree.old) (λ log. IsTaken (current log) (is_top (seen_copy self.old)) replies pair Taken.Link) }
-        ensures works { TakesNext (IsPartPlace (P.is_free parts.now) (seen_copy self.old)) replies (seen_copy self.old) (seen_copy self.new) result.did (T.contents tree.old) (T.contents tree.new) }
-        ensures counts { Counts result.did result.calls (T.contents tree.old) (T.contents tree.new) (T.fault_count tree.old) (T.fault_count tree.new) }
+        requires taken { IfKnown (T.contents tree.old) (λ log.
+            IsTaken (current log) (is_top (seen_copy self.old)) replies pair Taken.Link) }
+        ensures works { TakesNext (IsPartPlace (P.is_free parts.now) (seen_copy self.old)) replies
+            (seen_copy self.old) (seen_copy self.new) result.did (T.contents tree.old) (T.contents tree.new) }
+        ensures counts { Counts result.did result.calls (T.contents tree.old) (T.contents tree.new)
+            (T.fault_count tree.old) (T.fault_count tree.new) }
         ensures workable { IsWorkable self.new.item }
     {
         let places = match self.places_of(alloc, &pair) {
@@ -277,9 +298,12 @@ impl TreeCopy {
     ) -> StepResult
         requires free { self.old.item ≡ ItemAtWork.Next }
         requires next { due (seen_copy self.old) ≡ Due.Thing pair }
-        ensures works { RunsOut (seen_copy self.old) (seen_copy self.new) result.did (T.contents tree.old) (T.contents tree.new)
-            ⊎ LinkWorks (link_begun pair part) (seen_copy self.old) (seen_copy self.new) result.did (T.contents tree.old) (T.contents tree.new) }
-        ensures counts { Counts result.did result.calls (T.contents tree.old) (T.contents tree.new) (T.fault_count tree.old) (T.fault_count tree.new) }
+        ensures works { RunsOut (seen_copy self.old) (seen_copy self.new) result.did (T.contents tree.old)
+            (T.contents tree.new)
+            ⊎ LinkWorks (link_begun pair part) (seen_copy self.old) (seen_copy self.new) result.did
+            (T.contents tree.old) (T.contents tree.new) }
+        ensures counts { Counts result.did result.calls (T.contents tree.old) (T.contents tree.new)
+            (T.fault_count tree.old) (T.fault_count tree.new) }
         ensures workable { IsWorkable self.new.item }
     {
         match self.link_copy(alloc, pair, part) {

@@ -5,7 +5,8 @@ ghost use Rattle.copy_link.specs.LinkCopying.{is_ready};
 ghost use Rattle.copy_tree.specs.Parts.{IsPartPlace};
 ghost use Rattle.copy_tree.specs.Standing.{seen_copy};
 ghost use Rattle.copy_tree.specs.Progress.{link_progress, progress};
-ghost use Rattle.copy_tree.specs.TreeCopySteps.{Advances, CopySteps, Counts, FileWorks, IsWorkable, LinkWorks, noted_copy, copy_after_progress, stays_ready};
+ghost use Rattle.copy_tree.specs.TreeCopySteps.{Advances, CopySteps, Counts, FileWorks, IsWorkable};
+ghost use Rattle.copy_tree.specs.TreeCopySteps.{LinkWorks, noted_copy, copy_after_progress, stays_ready};
 
 use crate::copy::TreeCopy;
 use crate::item::ItemAtWork;
@@ -30,7 +31,8 @@ impl TreeCopy {
         replies: Replies,
     ) -> StepResult
         requires workable { IsWorkable self.old.item }
-        ensures steps { CopySteps (P.is_free parts.now) replies (seen_copy self.old) (seen_copy self.new) result.did result.calls
+        ensures steps { CopySteps (P.is_free parts.now) replies (seen_copy self.old) (seen_copy self.new)
+            result.did result.calls
             (T.contents tree.old) (T.contents tree.new) (T.fault_count tree.old) (T.fault_count tree.new) }
         ensures workable { IsWorkable self.new.item }
     {
@@ -50,7 +52,8 @@ impl TreeCopy {
         replies: Replies,
     ) -> Option<StepResult>
         requires workable { IsWorkable self.old.item }
-        ensures advances { Advances (P.is_free parts.now) replies (seen_copy self.old) (seen_copy self.new) result
+        ensures advances { Advances (P.is_free parts.now) replies (seen_copy self.old)
+            (seen_copy self.new) result
             (T.contents tree.old) (T.contents tree.new) (T.fault_count tree.old) (T.fault_count tree.new) }
         ensures workable { IsWorkable self.new.item }
     {
@@ -72,8 +75,10 @@ impl TreeCopy {
     ) -> StepResult
         requires free { self.old.item ≡ ItemAtWork.Next }
         requires ready { left_at copy.stage ≡ None }
-        ensures works { FileWorks (IsPartPlace (P.is_free parts.now) (seen_copy self.old)) copy (seen_copy self.old) (seen_copy self.new) result.did (T.contents tree.old) (T.contents tree.new) }
-        ensures counts { Counts result.did result.calls (T.contents tree.old) (T.contents tree.new) (T.fault_count tree.old) (T.fault_count tree.new) }
+        ensures works { FileWorks (IsPartPlace (P.is_free parts.now) (seen_copy self.old)) copy
+            (seen_copy self.old) (seen_copy self.new) result.did (T.contents tree.old) (T.contents tree.new) }
+        ensures counts { Counts result.did result.calls (T.contents tree.old) (T.contents tree.new)
+            (T.fault_count tree.old) (T.fault_count tree.new) }
         ensures workable { IsWorkable self.new.item }
     {
         let mut copy = copy;
@@ -98,8 +103,10 @@ impl TreeCopy {
     ) -> StepResult
         requires free { self.old.item ≡ ItemAtWork.Next }
         requires ready { is_ready copy.stage copy.folder ≡ true }
-        ensures works { LinkWorks copy (seen_copy self.old) (seen_copy self.new) result.did (T.contents tree.old) (T.contents tree.new) }
-        ensures counts { Counts result.did result.calls (T.contents tree.old) (T.contents tree.new) (T.fault_count tree.old) (T.fault_count tree.new) }
+        ensures works { LinkWorks copy (seen_copy self.old) (seen_copy self.new) result.did
+            (T.contents tree.old) (T.contents tree.new) }
+        ensures counts { Counts result.did result.calls (T.contents tree.old) (T.contents tree.new)
+            (T.fault_count tree.old) (T.fault_count tree.new) }
         ensures workable { IsWorkable self.new.item }
     {
         let mut copy = copy;
@@ -121,7 +128,8 @@ impl TreeCopy {
     pub(crate) fn put_file(&mut self, copy: FileCopy)
         requires free { self.old.item ≡ ItemAtWork.Next }
         requires ready { left_at copy.stage ≡ None }
-        ensures settled { seen_copy self.new ≡ copy_after_progress (progress copy.stage) (ItemAtWork.File copy) (seen_copy self.old) }
+        ensures settled { seen_copy self.new
+            ≡ copy_after_progress (progress copy.stage) (ItemAtWork.File copy) (seen_copy self.old) }
         ensures workable { IsWorkable self.new.item }
     {
         match progress_of(&copy) {
@@ -135,7 +143,8 @@ impl TreeCopy {
     pub(crate) fn put_link(&mut self, copy: LinkCopy)
         requires free { self.old.item ≡ ItemAtWork.Next }
         requires ready { stays_ready copy.stage ≡ true }
-        ensures settled { seen_copy self.new ≡ copy_after_progress (link_progress copy.stage) (ItemAtWork.Link copy) (seen_copy self.old) }
+        ensures settled { seen_copy self.new
+            ≡ copy_after_progress (link_progress copy.stage) (ItemAtWork.Link copy) (seen_copy self.old) }
         ensures workable { IsWorkable self.new.item }
     {
         match progress_of_link(&copy) {

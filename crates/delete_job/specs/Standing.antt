@@ -59,7 +59,8 @@ IsDone Inside (Thing path) left old new = new ≡ passed_place left old
 IsDone Inside (End folder) left old new = Leaves left old new
 
 -- the deletion once a thing or a folder at this path is gone, or was left
-pub record Decides (old : Deletion) (left : Bool) (path : Route) (stage : Stage) (new : Deletion) : Type 0 where
+pub record Decides (old : Deletion) (left : Bool) (path : Route) (stage : Stage)
+    (new : Deletion) : Type 0 where
   pub place : IsDone old.depth (item old) left old.walk.place new.walk.place
   pub stage_is : new.stage ≡ after_item old.path path stage
   pub path_is : new.path ≡ old.path

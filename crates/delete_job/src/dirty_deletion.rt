@@ -1,5 +1,6 @@
-//! The deletion of a thing with all that lies in it, a name a step, by the machine of `delete_job`: once each thing is gone or was
-//! left, each folder that was changed is synced, and only then is it finished, so that a finished deletion is on the disk.
+//! The deletion of a thing with all that lies in it, a name a step, by the machine of `delete_job`: once
+//! each thing is gone or was left, each folder that was changed is synced, and only then is it finished, so
+//! that a finished deletion is on the disk.
 ghost use Rattle.std.specs.Prelude.{◌≡◌, Some};
 ghost use Rattle.mc_text.specs.Routes.{parent_of};
 ghost use Rattle.job_reports.specs.Paths.{folder_of};
@@ -31,7 +32,13 @@ impl Model for TreeDeletion {
 
     ghost Value = { Deleting };
 
-    ghost view = { λ d. record { path = d.machine.path; stage = d.machine.stage; depth = d.machine.depth; place = d.machine.walk.place; tried = d.tried } };
+    ghost view = { λ d. record {
+      path = d.machine.path;
+      stage = d.machine.stage;
+      depth = d.machine.depth;
+      place = d.machine.walk.place;
+      tried = d.tried;
+    } };
 
     ghost invariant = { λ d. (parent_of d.machine.path ≡ Some d.machine.folder) × IsInside d.machine };
 }
@@ -48,8 +55,8 @@ impl TreeDeletion {
         }
     }
 
-    /// Does the next piece of work, which is at most one changing call of the tree. Where that is in a trouble of a kind that is skipped, by
-    /// what was answered, it is passed over.
+    /// Does the next piece of work, which is at most one changing call of the tree. Where that is in a
+    /// trouble of a kind that is skipped, by what was answered, it is passed over.
     pub fn step<T: Tree>(
         &mut self,
         alloc: Global,
@@ -57,7 +64,8 @@ impl TreeDeletion {
         dirty: &mut Dirty,
         replies: Replies,
     ) -> StepResult
-        ensures { DeletionStep replies self.old self.new result.did result.calls dirty.old dirty.new (T.contents tree.old)
+        ensures { DeletionStep replies self.old self.new result.did result.calls dirty.old dirty.new
+            (T.contents tree.old)
             (T.contents tree.new) (T.fault_count tree.old) (T.fault_count tree.new) }
     {
         if self.machine.is_at_barrier() {
@@ -75,7 +83,8 @@ impl TreeDeletion {
         self.machine.skip(alloc, cause)
     }
 
-    /// Makes the next of the last steps of a job that is to end so: each folder that may have been changed is tried once.
+    /// Makes the next of the last steps of a job that is to end so: each folder that may have
+    /// been changed is tried once.
     pub fn wind_up<T: Tree>(
         &mut self,
         alloc: Global,
@@ -83,7 +92,8 @@ impl TreeDeletion {
         ending: Ending,
         dirty: &mut Dirty,
     ) -> LastStepResult
-        ensures { LastDeletionStep ending self.old self.new result.did result.calls result.left dirty.old dirty.new
+        ensures { LastDeletionStep ending self.old self.new result.did result.calls result.left
+            dirty.old dirty.new
             (T.contents tree.old) (T.contents tree.new) (T.fault_count tree.old) (T.fault_count tree.new) }
     {
         self.machine
@@ -119,7 +129,8 @@ impl TreeDeletion {
     }
 }
 
-/// What a step has worked, or what it is in trouble with is passed over, where troubles of that kind are skipped.
+/// What a step has worked, or what it is in trouble with is passed over, where troubles
+/// of that kind are skipped.
 fn or_passed_over(
     machine: &mut Deletion,
     alloc: Global,

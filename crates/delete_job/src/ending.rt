@@ -28,8 +28,8 @@ impl Deletion {
         }
     }
 
-    /// A last step of a job that is to end so: the next folder that was changed is tried once, from this one on; where there is
-    /// none, it ends.
+    /// A last step of a job that is to end so: the next folder that was changed is tried once, from this
+    /// one on; where there is none, it ends.
     pub fn try_next<T: Tree>(
         &self,
         alloc: Global,
@@ -38,7 +38,8 @@ impl Deletion {
         from: &mut usize,
         ending: Ending,
     ) -> LastStepResult
-        ensures { LastSteps ending self.now from.old from.new result.did result.calls result.left dirty.old dirty.new
+        ensures { LastSteps ending self.now from.old from.new result.did result.calls result.left
+            dirty.old dirty.new
             (T.contents tree.old) (T.contents tree.new) (T.fault_count tree.old) (T.fault_count tree.new) }
     {
         let Some(at) = dirty.first_from(*from, &self.folder, &self.path) else {

@@ -29,7 +29,8 @@ pub(crate) fn what_stands<T: Tree>(
     path: &Path,
 ) -> Result<Found, Trouble>
     ensures known { StandsSo (T.contents tree.old) path.now result }
-    ensures peeks { Peeks result (T.contents tree.old) (T.contents tree.new) (T.fault_count tree.old) (T.fault_count tree.new) }
+    ensures peeks { Peeks result (T.contents tree.old) (T.contents tree.new) (T.fault_count tree.old)
+        (T.fault_count tree.new) }
 {
     match is_folder_at(alloc, tree, path) {
         Ok(true) => names_in(alloc, tree, path),
@@ -43,7 +44,8 @@ fn is_folder_at<T: Tree>(alloc: Global, tree: &mut T, path: &Path) -> Result<boo
     ensures known { IfKnown (T.contents tree.old) (λ log. MatchResult result
         (λ answer. is_folder (node (current log) (found_node (current log) path.now)) ≡ answer)
         (λ trouble. CallStops (current log) (Stat path.now) path.now trouble.cause trouble.path)) }
-    ensures peeks { Peeks result (T.contents tree.old) (T.contents tree.new) (T.fault_count tree.old) (T.fault_count tree.new) }
+    ensures peeks { Peeks result (T.contents tree.old) (T.contents tree.new) (T.fault_count tree.old)
+        (T.fault_count tree.new) }
 {
     match tree.stat(alloc, path) {
         Ok(meta) => Ok(is_kind_of_folder(meta.kind)),
@@ -62,9 +64,11 @@ fn is_kind_of_folder(kind: Kind) -> bool
 
 /// The names in a folder, all of which can be shown.
 fn names_in<T: Tree>(alloc: Global, tree: &mut T, path: &Path) -> Result<Found, Trouble>
-    requires folder { IfKnown (T.contents tree.old) (λ log. is_folder (node (current log) (found_node (current log) path.now)) ≡ true) }
+    requires folder { IfKnown (T.contents tree.old) (λ log.
+        is_folder (node (current log) (found_node (current log) path.now)) ≡ true) }
     ensures known { StandsSo (T.contents tree.old) path.now result }
-    ensures peeks { Peeks result (T.contents tree.old) (T.contents tree.new) (T.fault_count tree.old) (T.fault_count tree.new) }
+    ensures peeks { Peeks result (T.contents tree.old) (T.contents tree.new) (T.fault_count tree.old)
+        (T.fault_count tree.new) }
 {
     match listing(alloc, tree, path) {
         Ok(children) => shown(alloc, path, children),
@@ -74,10 +78,12 @@ fn names_in<T: Tree>(alloc: Global, tree: &mut T, path: &Path) -> Result<Found, 
 
 fn listing<T: Tree>(alloc: Global, tree: &mut T, path: &Path) -> Result<Children, Trouble>
     ensures known { IfKnown (T.contents tree.old) (λ log. MatchResult result
-        (λ children. (refusal_of (current log) (ListFolder path.now) ≡ None) × IsListing (current log) (found_node (current log) path.now) children)
+        (λ children. (refusal_of (current log) (ListFolder path.now) ≡ None)
+        × IsListing (current log) (found_node (current log) path.now) children)
         (λ trouble. CallStops (current log) (ListFolder path.now) path.now trouble.cause trouble.path)) }
     ensures in_order { IfOk result (λ children. IsAscending children.names) }
-    ensures peeks { Peeks result (T.contents tree.old) (T.contents tree.new) (T.fault_count tree.old) (T.fault_count tree.new) }
+    ensures peeks { Peeks result (T.contents tree.old) (T.contents tree.new) (T.fault_count tree.old)
+        (T.fault_count tree.new) }
 {
     match tree.list(alloc, path) {
         Ok(children) => Ok(children),

@@ -26,7 +26,8 @@ impl Deletion {
     /// Looks at what comes next; a folder is listed and gone into.
     pub(crate) fn meet<T: Tree>(&mut self, alloc: Global, tree: &mut T) -> Result<Met, Trouble>
         ensures meets { Meets (T.contents tree.old) self.old result self.new }
-        ensures peeks { Peeks result (T.contents tree.old) (T.contents tree.new) (T.fault_count tree.old) (T.fault_count tree.new) }
+        ensures peeks { Peeks result (T.contents tree.old) (T.contents tree.new) (T.fault_count tree.old)
+            (T.fault_count tree.new) }
     {
         match self.depth {
             Depth::Top => self.meet_top(alloc, tree),
@@ -38,7 +39,8 @@ impl Deletion {
     fn meet_top<T: Tree>(&mut self, alloc: Global, tree: &mut T) -> Result<Met, Trouble>
         requires depth { self.old.depth ≡ Depth.Top }
         ensures meets { Meets (T.contents tree.old) self.old result self.new }
-        ensures peeks { Peeks result (T.contents tree.old) (T.contents tree.new) (T.fault_count tree.old) (T.fault_count tree.new) }
+        ensures peeks { Peeks result (T.contents tree.old) (T.contents tree.new) (T.fault_count tree.old)
+            (T.fault_count tree.new) }
     {
         let Ok(path) = self.path.copy(alloc) else {
             return Err(out_of_memory(false));
@@ -54,7 +56,8 @@ impl Deletion {
     fn meet_next<T: Tree>(&mut self, alloc: Global, tree: &mut T) -> Result<Met, Trouble>
         requires depth { self.old.depth ≡ Depth.Inside }
         ensures meets { Meets (T.contents tree.old) self.old result self.new }
-        ensures peeks { Peeks result (T.contents tree.old) (T.contents tree.new) (T.fault_count tree.old) (T.fault_count tree.new) }
+        ensures peeks { Peeks result (T.contents tree.old) (T.contents tree.new) (T.fault_count tree.old)
+            (T.fault_count tree.new) }
     {
         let Some(name) = self.walk.next_name() else {
             return Ok(Met::End);
@@ -79,7 +82,8 @@ impl Deletion {
         requires next { IsNext path self.old.walk.place }
         requires short { length (spelled_route path) ≤ 4096 }
         ensures meets { Meets (T.contents tree.old) self.old result self.new }
-        ensures peeks { Peeks result (T.contents tree.old) (T.contents tree.new) (T.fault_count tree.old) (T.fault_count tree.new) }
+        ensures peeks { Peeks result (T.contents tree.old) (T.contents tree.new) (T.fault_count tree.old)
+            (T.fault_count tree.new) }
     {
         if self.walk.is_deepest() {
             return Err(trouble_with_path(alloc, Cause::TooDeep, &path));

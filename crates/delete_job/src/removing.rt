@@ -3,7 +3,8 @@ ghost use Rattle.std.specs.Prelude.{◌≡◌, ◌-◌, false, true, length, tak
 ghost use Rattle.job_reports.specs.Paths.{folder_of};
 ghost use Rattle.delete_job.specs.Descending.{IsPlain, MayLook};
 ghost use Rattle.job_unsynced.specs.Folders.{joined_folders};
-ghost use Rattle.delete_job.specs.Standing.{Decides, End, Leaves, Thing, at_barrier, item as next_item, worked_folder};
+ghost use Rattle.delete_job.specs.Standing.{Decides, End, Leaves, Thing, at_barrier};
+ghost use Rattle.delete_job.specs.Standing.{item as next_item, worked_folder};
 ghost use Rattle.delete_job.specs.TreeDeletionSteps.{IsThing, KeepsRest, Passes, Working};
 
 use crate::deletion::{Deletion, Depth, Stage, stage_after};
@@ -156,7 +157,8 @@ impl Deletion {
 /// The folder that holds what stands at a path joins the dirty ones; whether it did.
 fn join_holder(alloc: Global, dirty: &mut Dirty, path: &Path) -> Result<bool, NoMemory>
     ensures joined { OnOk result (dirty.new ≡ joined_folders (folder_of path.now) dirty.old) }
-    ensures back { IfOk result (λ more. (if more then take (length dirty.new - 1) dirty.new else dirty.new) ≡ dirty.old) }
+    ensures back { IfOk result (λ more.
+        (if more then take (length dirty.new - 1) dirty.new else dirty.new) ≡ dirty.old) }
     ensures refused { OnErr result (dirty.new ≡ dirty.old) }
 {
     let holder = holder_of(alloc, path)?;

@@ -21,8 +21,8 @@ impl Deletion {
         }
     }
 
-    /// What stands in trouble is passed, and its path is given; without memory all is as it was. Where a path below a folder
-    /// would be too long, the folder is left.
+    /// What stands in trouble is passed, and its path is given; without memory all is as it was. Where a
+    /// path below a folder would be too long, the folder is left.
     fn take_off(&mut self, alloc: Global) -> Result<Path, NoMemory>
         ensures taken { IfOk result (λ path. TakesOff path self.old self.new) }
         ensures same { OnErr result (self.new ≡ self.old) }

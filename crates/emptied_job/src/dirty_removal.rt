@@ -1,5 +1,5 @@
-//! The removal of an emptied folder, with the dirty folders: the one around joins them before it is removed, when there may still be no
-//! memory, and leaves them with its sync.
+//! The removal of an emptied folder, with the dirty folders: the one around joins them before it is
+//! removed, when there may still be no memory, and leaves them with its sync.
 ghost use Rattle.std.specs.Prelude.{◌≡◌};
 ghost use Rattle.job_reports.specs.Paths.{folder_of};
 ghost use Rattle.emptied_job.specs.Removals.{is_dirty};
@@ -23,7 +23,8 @@ pub fn step_removal<T: Tree>(
 ) -> StepResult
     ensures steps { RemovalStep replies removal.old removal.new result.did result.calls (T.contents tree.old)
         (T.contents tree.new) (T.fault_count tree.old) (T.fault_count tree.new) }
-    ensures leaves { dirty.new ≡ with_change (is_dirty removal.old.stage) (is_dirty removal.new.stage) (folder_of removal.old.path) dirty.old }
+    ensures leaves { dirty.new ≡ with_change (is_dirty removal.old.stage) (is_dirty removal.new.stage)
+        (folder_of removal.old.path) dirty.old }
 {
     let Ok(readied) = dirty.ready(
         alloc,
@@ -46,7 +47,8 @@ pub fn wind_up_removal<T: Tree>(
     ending: Ending,
     dirty: &mut Dirty,
 ) -> LastStepResult
-    ensures winds { LastRemovalStep ending removal.old removal.new result.did result.calls result.left (T.contents tree.old) (T.contents tree.new) (T.fault_count tree.old) (T.fault_count tree.new) }
+    ensures winds { LastRemovalStep ending removal.old removal.new result.did result.calls result.left
+        (T.contents tree.old) (T.contents tree.new) (T.fault_count tree.old) (T.fault_count tree.new) }
     ensures tries { dirty.new ≡ after_try result.did result.left (folder_of removal.old.path) dirty.old }
 {
     let stepped = removal.wind_up(alloc, tree, ending);

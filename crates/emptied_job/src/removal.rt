@@ -1,10 +1,12 @@
-//! The removal of one folder that a merge has emptied, a call of the tree at each step: it is removed, the folder around is synced, and only
-//! then is it finished, so that a folder whose removal is finished doesn't come back. One in which something stayed is kept.
+//! The removal of one folder that a merge has emptied, a call of the tree at each step: it is removed, the
+//! folder around is synced, and only then is it finished, so that a folder whose removal is finished
+//! doesn't come back. One in which something stayed is kept.
 ghost use Rattle.std.specs.Prelude.{◌≡◌, ◌⊎◌, false, true, Err, Some};
 ghost use Rattle.job_reports.specs.Paths.{folder_of};
 ghost use Rattle.job_reports.specs.Stops.{calls_made_for};
 ghost use Rattle.job_answers.specs.Skipping.{holds, kind_in};
-ghost use Rattle.emptied_job.specs.Removals.{LiesIn, at_barrier, is_dirty, is_fresh, skipped_stage as skipped_to, begun_removal};
+ghost use Rattle.emptied_job.specs.Removals.{LiesIn, at_barrier, is_dirty, is_fresh};
+ghost use Rattle.emptied_job.specs.Removals.{skipped_stage as skipped_to, begun_removal};
 ghost use Rattle.emptied_job.specs.RemovalSteps.{LastRemovalStep, NotRemoved, RemovalSkips, RemovalStep};
 
 use job_answers::{Replies, kind_of};
@@ -59,7 +61,8 @@ impl FolderRemoval {
         }
     }
 
-    /// Does the next piece of work, which is at most one call of the tree, where this was answered to the job's troubles.
+    /// Does the next piece of work, which is at most one call of the tree, where this was
+    /// answered to the job's troubles.
     pub fn step<T: Tree>(&mut self, alloc: Global, tree: &mut T, replies: Replies) -> StepResult
         ensures { RemovalStep replies self.old self.new result.did result.calls (T.contents tree.old)
             (T.contents tree.new) (T.fault_count tree.old) (T.fault_count tree.new) }
@@ -91,7 +94,8 @@ impl FolderRemoval {
         tree: &mut T,
         ending: Ending,
     ) -> LastStepResult
-        ensures { LastRemovalStep ending self.old self.new result.did result.calls result.left (T.contents tree.old)
+        ensures { LastRemovalStep ending self.old self.new result.did result.calls result.left
+            (T.contents tree.old)
             (T.contents tree.new) (T.fault_count tree.old) (T.fault_count tree.new) }
     {
         match self.stage {
@@ -150,7 +154,8 @@ impl FolderRemoval {
 }
 
 impl FolderRemoval {
-    /// Removes the folder. The path of the report comes first: after the call it is too late to find no memory.
+    /// Removes the folder. The path of the report comes first: after the call it is
+    /// too late to find no memory.
     fn remove<T: Tree>(&mut self, alloc: Global, tree: &mut T, replies: Replies) -> StepResult
         requires stage { self.old.stage ≡ RemovalStage.Remove }
         ensures { RemovalStep replies self.old self.new result.did result.calls (T.contents tree.old)
@@ -189,7 +194,8 @@ impl FolderRemoval {
         ensures did { let cause = Cause.Tree error in
             ((holds replies.skips (kind_in cause) ≡ true) × (result.did ≡ Did.Skipped path cause)
             × (self.new ≡ record self.old { stage = RemovalStage.PassedOver }))
-            ⊎ ((holds replies.skips (kind_in cause) ≡ false) × (result.did ≡ Did.Troubled (record { cause = cause; path = Some path; barrier = false }))
+            ⊎ ((holds replies.skips (kind_in cause) ≡ false)
+            × (result.did ≡ Did.Troubled (record { cause = cause; path = Some path; barrier = false }))
             × (self.new ≡ self.old)) }
         ensures calls { result.calls ≡ 1 }
     {
@@ -228,7 +234,8 @@ impl FolderRemoval {
     /// The one try of a job that is to end.
     fn try_sync<T: Tree>(&mut self, alloc: Global, tree: &mut T, ending: Ending) -> LastStepResult
         requires stage { self.old.stage ≡ RemovalStage.Sync }
-        ensures { LastRemovalStep ending self.old self.new result.did result.calls result.left (T.contents tree.old)
+        ensures { LastRemovalStep ending self.old self.new result.did result.calls result.left
+            (T.contents tree.old)
             (T.contents tree.new) (T.fault_count tree.old) (T.fault_count tree.new) }
     {
         let _ending = ending;

@@ -1,5 +1,6 @@
 -- The action that a file's rules have for a thing (mc(1), "Extension File Edit").
-use Rattle.std.specs.Prelude.{ℕ, Bool, true, false, List, [], ◌∷◌, Option, Some, None, if◌then◌else◌, option_and_then}
+use Rattle.std.specs.Prelude.{ℕ, Bool, true, false, List, [], ◌∷◌, Option}
+use Rattle.std.specs.Prelude.{Some, None, if◌then◌else◌, option_and_then}
 use Rattle.std.specs.Option.{option_or}
 use Rattle.mc_text.specs.declared.kind.Kind.{Kind}
 use Rattle.ext_rules.specs.declared.act.Act.{Act}
@@ -32,7 +33,8 @@ first_command key (action ∷ actions) =
 -- the first rule that is included by this name
 abbrev pub included_rule : List ℕ → List FileRule → Option FileRule
 included_rule name [] = None
-included_rule name (rule ∷ rules) = if is_included name rule.condition then Some rule else included_rule name rules
+included_rule name (rule ∷ rules) =
+    if is_included name rule.condition then Some rule else included_rule name rules
 
 -- a rule's command: its own, or else that of the rule that it includes, which includes no further
 abbrev pub command_in : List FileRule → Key → FileRule → Option (List ℕ)
@@ -50,7 +52,8 @@ if_met (Some command) false others = others
 abbrev pub first_met : List FileRule → Key → Kind → List ℕ → List FileRule → Option (List ℕ)
 first_met rules key kind name [] = None
 first_met rules key kind name (rule ∷ others) =
-    if_met (command_in rules key rule) (is_met rule.condition kind name) (first_met rules key kind name others)
+    if_met (command_in rules key rule) (is_met rule.condition kind name)
+    (first_met rules key kind name others)
 
 -- the action of the first rule that matches and has it
 abbrev pub action_of : List FileRule → List ℕ → Kind → Act → Option (List ℕ)

@@ -1,5 +1,5 @@
--- Which things meet a rule's condition (mc(1), "Extension File Edit"; that a name's end is given by a text that begins
--- with a dot is own).
+-- Which things meet a rule's condition (mc(1), "Extension File Edit"; that a name's end is given by a text
+-- that begins with a dot is own).
 use Rattle.std.specs.Prelude.{ℕ, Bool, true, false, nat_eq, List, map}
 use Rattle.std.specs.List.{ends_with}
 use Rattle.std.specs.Str.{bytes_eq}
@@ -10,7 +10,9 @@ use Rattle.tagging.specs.Patterns.{is_found}
 use Rattle.ext_rules.specs.declared.condition.Case.{Case}
 use Rattle.ext_rules.specs.declared.condition.Case.TheVariants.{Sensitive, Insensitive}
 use Rattle.ext_rules.specs.declared.condition.Condition.{Condition}
-use Rattle.ext_rules.specs.declared.condition.Condition.TheVariants.{EndsWith, IsName, FoundInName, FoundInFolder, Nothing, Included, Everything}
+use Rattle.ext_rules.specs.declared.condition.Condition.TheVariants.{EndsWith, IsName, FoundInName}
+use Rattle.ext_rules.specs.declared.condition.Condition.TheVariants.{FoundInFolder, Nothing}
+use Rattle.ext_rules.specs.declared.condition.Condition.TheVariants.{Included, Everything}
 
 -- a text as it is compared
 abbrev pub folded_text : Case → List ℕ → List ℕ

@@ -1,5 +1,6 @@
 -- An extension file's rules and its first fault (mc(1), "Extension File Edit"; the refusals are own).
-use Rattle.std.specs.Prelude.{◌≡◌, ℕ, ◌+◌, Bool, true, false, if◌then◌else◌, List, [], ◌∷◌, map, Option, Some, None}
+use Rattle.std.specs.Prelude.{◌≡◌, ℕ, ◌+◌, Bool, true, false, if◌then◌else◌}
+use Rattle.std.specs.Prelude.{List, [], ◌∷◌, map, Option, Some, None}
 use Rattle.std.specs.Str.{is_utf8}
 use Rattle.std.specs.Str.Lossy.{utf8_valid_len}
 use Rattle.text_scan.specs.Lines.{lines_of}
@@ -7,7 +8,8 @@ use Rattle.ext_rules.specs.declared.actions.Action as one
 use Rattle.ext_rules.specs.declared.error.ExtError.{ExtError}
 use Rattle.ext_rules.specs.declared.error.ExtError.TheVariants as fault
 use Rattle.ext_rules.specs.declared.line.LineRead.{LineRead}
-use Rattle.ext_rules.specs.declared.line.LineRead.TheVariants.{Passed, Rule, Action, Ignored, Unknown, BadPattern}
+use Rattle.ext_rules.specs.declared.line.LineRead.TheVariants.{Passed, Rule, Action}
+use Rattle.ext_rules.specs.declared.line.LineRead.TheVariants.{Ignored, Unknown, BadPattern}
 use Rattle.ext_rules.specs.ExtLines.{reading_of}
 use Rattle.ext_rules.specs.FileRules.{FileRule}
 
@@ -29,7 +31,8 @@ leading_actions (BadPattern ∷ lines) = leading_actions lines
 abbrev pub rules_said : List LineRead → List FileRule
 rules_said [] = []
 rules_said (Passed ∷ lines) = rules_said lines
-rules_said (Rule condition ∷ lines) = record { condition = condition; actions = leading_actions lines } ∷ rules_said lines
+rules_said (Rule condition ∷ lines) =
+    record { condition = condition; actions = leading_actions lines } ∷ rules_said lines
 rules_said (Action action ∷ lines) = rules_said lines
 rules_said (Ignored ∷ lines) = rules_said lines
 rules_said (Unknown ∷ lines) = rules_said lines
@@ -40,14 +43,17 @@ abbrev pub fault_from : ℕ → (after_rule : Bool) → List LineRead → Option
 fault_from at after_rule [] = None
 fault_from at after_rule (Passed ∷ lines) = fault_from (at + 1) after_rule lines
 fault_from at after_rule (Rule condition ∷ lines) = fault_from (at + 1) true lines
-fault_from at after_rule (Action action ∷ lines) = if after_rule then fault_from (at + 1) true lines else Some (fault.ActionBeforeRule at)
-fault_from at after_rule (Ignored ∷ lines) = if after_rule then fault_from (at + 1) true lines else Some (fault.ActionBeforeRule at)
+fault_from at after_rule (Action action ∷ lines) =
+    if after_rule then fault_from (at + 1) true lines else Some (fault.ActionBeforeRule at)
+fault_from at after_rule (Ignored ∷ lines) =
+    if after_rule then fault_from (at + 1) true lines else Some (fault.ActionBeforeRule at)
 fault_from at after_rule (Unknown ∷ lines) = Some (fault.UnknownRule at)
 fault_from at after_rule (BadPattern ∷ lines) = Some (fault.BadPattern at)
 
 -- the first fault of a file: bytes that are no text, or else a line
 abbrev pub ext_fault : List ℕ → Option ExtError
-ext_fault bytes = if is_utf8 bytes then fault_from 1 false (readings bytes) else Some (fault.NotText (utf8_valid_len bytes))
+ext_fault bytes =
+    if is_utf8 bytes then fault_from 1 false (readings bytes) else Some (fault.NotText (utf8_valid_len bytes))
 
 -- the bytes are a file of these rules
 pub record IsExtFile (bytes : List ℕ) (rules : List FileRule) : Type 0 where

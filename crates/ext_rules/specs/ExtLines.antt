@@ -1,5 +1,6 @@
 -- The lines of an extension file in its older form (mc(1), "Extension File Edit"; what is refused is own).
-use Rattle.std.specs.Prelude.{ℕ, ◌==◌, if◌then◌else◌, List, [], ◌∷◌, ◌++◌, length, Option, Some, None, is_some, codes}
+use Rattle.std.specs.Prelude.{ℕ, ◌==◌, if◌then◌else◌, List, [], ◌∷◌, ◌++◌}
+use Rattle.std.specs.Prelude.{length, Option, Some, None, is_some, codes}
 use Rattle.std.specs.Option.{option_map_or}
 use Rattle.tagging.specs.Patterns.{PatternText}
 use Rattle.tagging.specs.declared.pattern.PatternKind.TheVariants.{Regex}
@@ -10,14 +11,18 @@ use Rattle.ext_rules.specs.declared.actions.Key.TheVariants.{Open, View, Edit, I
 use Rattle.ext_rules.specs.declared.condition.Case.{Case}
 use Rattle.ext_rules.specs.declared.condition.Case.TheVariants.{Sensitive, Insensitive}
 use Rattle.ext_rules.specs.declared.condition.Condition.{Condition}
-use Rattle.ext_rules.specs.declared.condition.Condition.TheVariants.{EndsWith, IsName, FoundInName, FoundInFolder, Nothing, Included, Everything}
+use Rattle.ext_rules.specs.declared.condition.Condition.TheVariants.{EndsWith, IsName, FoundInName}
+use Rattle.ext_rules.specs.declared.condition.Condition.TheVariants.{FoundInFolder, Nothing}
+use Rattle.ext_rules.specs.declared.condition.Condition.TheVariants.{Included, Everything}
 use Rattle.ext_rules.specs.declared.line.LineRead.{LineRead}
-use Rattle.ext_rules.specs.declared.line.LineRead.TheVariants.{Passed, Rule, Action, Ignored, Unknown, BadPattern}
+use Rattle.ext_rules.specs.declared.line.LineRead.TheVariants.{Passed, Rule, Action}
+use Rattle.ext_rules.specs.declared.line.LineRead.TheVariants.{Ignored, Unknown, BadPattern}
 
 -- what a text says by the first of some words with which it begins; each gives what is said behind it
 abbrev pub by_first_word : List (List ℕ × (List ℕ → LineRead)) → LineRead → List ℕ → LineRead
 by_first_word [] other text = other
-by_first_word ((word, said) ∷ words) other text = option_map_or said (behind_word word text) (by_first_word words other text)
+by_first_word ((word, said) ∷ words) other text =
+    option_map_or said (behind_word word text) (by_first_word words other text)
 
 abbrev pub action : Key → List ℕ → LineRead
 action key command = Action (record { key = key; command = command })
@@ -35,11 +40,13 @@ action_line =
 
 -- names that end with a text that begins with a dot, or that very name
 abbrev pub shell_condition : Case → List ℕ → Condition
-shell_condition case text = if is_some (behind_word (codes ".") text) then EndsWith case text else IsName case text
+shell_condition case text =
+    if is_some (behind_word (codes ".") text) then EndsWith case text else IsName case text
 
 abbrev pub shell_line : List ℕ → LineRead
 shell_line text =
-    option_map_or (λ behind. Rule (shell_condition Insensitive behind)) (behind_word (codes "i/") text) (Rule (shell_condition Sensitive text))
+    option_map_or (λ behind. Rule (shell_condition Insensitive behind)) (behind_word (codes "i/") text)
+    (Rule (shell_condition Sensitive text))
 
 abbrev pub pattern_rule : (PatternText → Condition) → Option PatternText → LineRead
 pattern_rule condition None = BadPattern
@@ -51,7 +58,8 @@ of_any_case text = codes "(?i)" ++ text
 
 abbrev pub regex_line : List ℕ → LineRead
 regex_line text =
-    option_map_or (λ behind. pattern_rule FoundInName (pattern_in Regex (of_any_case behind))) (behind_word (codes "i/") text)
+    option_map_or (λ behind. pattern_rule FoundInName (pattern_in Regex (of_any_case behind)))
+    (behind_word (codes "i/") text)
     (pattern_rule FoundInName (pattern_in Regex text))
 
 abbrev pub folder_line : List ℕ → LineRead

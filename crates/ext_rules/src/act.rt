@@ -16,8 +16,8 @@ pub enum Act {
     Change,
 }
 
-/// The command for a thing of this name and kind: that of the first rule that matches and has one for the act, its macros
-/// not yet expanded.
+/// The command for a thing of this name and kind: that of the first rule that matches and has one for the
+/// act, its macros not yet expanded.
 pub fn action(
     alloc: Global,
     rules: &Rules,
@@ -50,7 +50,8 @@ fn key_of(act: Act) -> Key
     }
 }
 
-/// A rule's command: its own, or else that of the rule that it includes. An include of that one is not followed.
+/// A rule's command: its own, or else that of the rule that it includes. An include of
+/// that one is not followed.
 fn command_in<'a>(rules: &'a [Rule], key: Key, rule: &'a Rule) -> Option<&'a Text>
     ensures { option_map (λ command. command.now) result ≡ command_in rules.now key rule.now }
 {

@@ -16,9 +16,9 @@ pub enum Case {
     Insensitive,
 }
 
-/// What a rule asks: of names that aren't of folders their end, the whole name, or that a pattern is found in it; of
-/// folders that a pattern is found in their name; nothing that anything has; or nothing at all, so that everything has
-/// it. An included rule is only looked up by its name.
+/// What a rule asks: of names that aren't of folders their end, the whole name, or that a pattern is found
+/// in it; of folders that a pattern is found in their name; nothing that anything has; or nothing at all,
+/// so that everything has it. An included rule is only looked up by its name.
 #[derive(Drop)]
 pub enum Condition {
     EndsWith { case: Case, text: Text },
@@ -86,7 +86,8 @@ impl Condition {
 
 /// Whether a name ends with a text.
 fn ends_with(alloc: Global, name: &str, text: &Text, case: Case) -> Result<bool, NoMemory>
-    ensures { IfOk result (λ is. is ≡ ends_with nat_eq (folded_text case name.now) (folded_text case text.now)) }
+    ensures { IfOk result
+        (λ is. is ≡ ends_with nat_eq (folded_text case name.now) (folded_text case text.now)) }
 {
     let name = folded(alloc, name, case)?;
     let text = folded(alloc, text.as_str(), case)?;

@@ -2,8 +2,9 @@
 use mc_text::NoMemory;
 use thiserror::Error;
 
-/// Why a file holds no rules. `NotText` has the position of the first byte that is no UTF-8, the others a line, counted
-/// from 1: of a rule that is none, of an action before any rule, of a rule whose text is no regular expression.
+/// Why a file holds no rules. `NotText` has the position of the first byte that is no UTF-8, the others
+/// a line, counted from 1: of a rule that is none, of an action before any rule, of a rule whose text
+/// is no regular expression.
 #[derive(Clone, Copy, Debug, Drop, Error, PartialEq, Eq)]
 pub enum ExtError {
     #[error("no text at byte {0}")]

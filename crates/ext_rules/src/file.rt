@@ -1,5 +1,6 @@
 //! An extension file, read.
-ghost use Rattle.std.specs.Prelude.{◌≡◌, ◌≢◌, ◌+◌, ◌<◌, [], ◌∷◌, ◌++◌, List, Some, None, false, vec_len, IfOk, IfErr, OnOk};
+ghost use Rattle.std.specs.Prelude.{◌≡◌, ◌≢◌, ◌+◌, ◌<◌, [], ◌∷◌, ◌++◌, List, Some};
+ghost use Rattle.std.specs.Prelude.{None, false, vec_len, IfOk, IfErr, OnOk};
 ghost use Rattle.ext_rules.specs.declared.line.LineRead.{LineRead};
 ghost use Rattle.ext_rules.specs.declared.actions.Action.{Action};
 ghost use Rattle.ext_rules.specs.ExtFiles.{IsExtFile, ext_fault, fault_from, readings, rules_said};
@@ -40,7 +41,8 @@ impl Rules {
     }
 }
 
-/// Reads an extension file. The first fault decides: first bytes that are no UTF-8, then the first line that is wrong.
+/// Reads an extension file. The first fault decides: first bytes that are no UTF-8, then the
+/// first line that is wrong.
 pub fn parse_ext(alloc: Global, bytes: &[u8]) -> Result<Rules, ExtError>
     ensures read { IfOk result (λ rules. IsExtFile bytes.now rules) }
     ensures refused { IfErr result (λ e. e ≢ ExtError.Memory → ext_fault bytes.now ≡ Some e) }
@@ -55,7 +57,8 @@ pub fn parse_ext(alloc: Global, bytes: &[u8]) -> Result<Rules, ExtError>
 fn parse_text(alloc: Global, text: &str) -> Result<Rules, ExtError>
     ensures rules { IfOk result (λ rules. rules ≡ rules_said (readings text.now)) }
     ensures faultless { IfOk result (λ _. fault_from 1 false (readings text.now) ≡ None) }
-    ensures refused { IfErr result (λ e. e ≢ ExtError.Memory → fault_from 1 false (readings text.now) ≡ Some e) }
+    ensures refused { IfErr result
+        (λ e. e ≢ ExtError.Memory → fault_from 1 false (readings text.now) ≡ Some e) }
 {
     let mut rules = Vec::new(alloc);
     let mut rest = text;
@@ -76,9 +79,11 @@ fn take_line(
     read: LineRead,
     at: usize,
 ) -> Result<(), ExtError>
-    ensures said { OnOk result ((lines : List LineRead) → continued_rules rules.new.items lines ≡ continued_rules rules.old.items (read ∷ lines)) }
+    ensures said { OnOk result ((lines : List LineRead)
+        → continued_rules rules.new.items lines ≡ continued_rules rules.old.items (read ∷ lines)) }
     ensures goes_on { OnOk result ((lines : List LineRead) →
-        fault_from (at + 1) (has_rule rules.new.items) lines ≡ fault_from at (has_rule rules.old.items) (read ∷ lines)) }
+        fault_from (at + 1) (has_rule rules.new.items) lines
+        ≡ fault_from at (has_rule rules.old.items) (read ∷ lines)) }
     ensures refused { IfErr result (λ e. e ≢ ExtError.Memory → (lines : List LineRead) →
         fault_from at (has_rule rules.old.items) (read ∷ lines) ≡ Some e) }
 {
@@ -108,7 +113,8 @@ fn take_line(
 
 /// Begins a rule, which has no action yet.
 fn begin_rule(alloc: Global, rules: &mut Vec<Rule>, condition: Condition) -> Result<(), NoMemory>
-    ensures { OnOk result (rules.new.items ≡ rules.old.items ++ record { condition = condition; actions = [] } ∷ []) }
+    ensures { OnOk result
+        (rules.new.items ≡ rules.old.items ++ record { condition = condition; actions = [] } ∷ []) }
 {
     rules.push(Rule::new(alloc, condition))?;
     Ok(())
@@ -117,7 +123,8 @@ fn begin_rule(alloc: Global, rules: &mut Vec<Rule>, condition: Condition) -> Res
 /// Puts an action at the end of the last rule.
 fn add_action(rules: &mut Vec<Rule>, action: Action) -> Result<(), NoMemory>
     requires { 0 < vec_len rules.old }
-    ensures extended { OnOk result ((more : List Action) → extended_rules rules.new.items more ≡ extended_rules rules.old.items (action ∷ more)) }
+    ensures extended { OnOk result ((more : List Action)
+        → extended_rules rules.new.items more ≡ extended_rules rules.old.items (action ∷ more)) }
     ensures same_rules { OnOk result (vec_len rules.new ≡ vec_len rules.old) }
 {
     let last = rules.len() - 1;

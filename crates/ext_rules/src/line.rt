@@ -2,7 +2,8 @@
 ghost use Rattle.std.specs.Prelude.{◌≡◌, IfOk};
 ghost use Rattle.tagging.specs.TypedPatterns.{pattern_in};
 ghost use Rattle.ext_rules.specs.declared.condition.Condition.TheVariants.{FoundInName};
-ghost use Rattle.ext_rules.specs.ExtLines.{reading_of, action_line, rule_line, shell_line, shell_condition, regex_line, folder_line, pattern_rule};
+ghost use Rattle.ext_rules.specs.ExtLines.{reading_of, action_line, rule_line, shell_line};
+ghost use Rattle.ext_rules.specs.ExtLines.{shell_condition, regex_line, folder_line, pattern_rule};
 
 use crate::actions::{Action, Key};
 use crate::condition::{Case, Condition};
@@ -11,8 +12,8 @@ use std::alloc::Global;
 use tagging::{PatternKind, pattern_in};
 use text_scan::{behind_indent, behind_word, unindented};
 
-/// What a line says: nothing, a rule, an action, an action that is ignored, no rule, or a rule whose text is no regular
-/// expression.
+/// What a line says: nothing, a rule, an action, an action that is ignored, no rule, or a rule whose text
+/// is no regular expression.
 #[derive(Drop)]
 pub enum LineRead {
     Passed,

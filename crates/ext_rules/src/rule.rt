@@ -37,7 +37,10 @@ impl Rule {
 
     /// Puts an action behind the others.
     pub fn push(&mut self, action: Action) -> Result<(), NoMemory>
-        ensures { OnOk result (self.new ≡ record { condition = self.old.condition; actions = self.old.actions ++ action ∷ [] }) }
+        ensures { OnOk result (self.new ≡ record {
+          condition = self.old.condition;
+          actions = self.old.actions ++ action ∷ [];
+        }) }
     {
         self.actions.push(action)?;
         Ok(())

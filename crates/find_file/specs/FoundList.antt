@@ -1,6 +1,8 @@
--- What a search comes to below a folder, in turn, as one list: each thing before what lies below it, a folder's children in byte
--- order of their names. The order and what is skipped are own (find(1) leaves the order open; links aren't followed, as by its -P).
-use Rattle.std.specs.Prelude.{ℕ, zero, suc, ◌==◌, Bool, false, not, ◌&&◌, ◌||◌, nat_lt, if◌then◌else◌, List, [], ◌∷◌, ◌++◌, length, take, flat_map, Option, Some, None}
+-- What a search comes to below a folder, in turn, as one list: each thing before what lies below it, a
+-- folder's children in byte order of their names. The order and what is skipped are own (find(1) leaves the
+-- order open; links aren't followed, as by its -P).
+use Rattle.std.specs.Prelude.{ℕ, zero, suc, ◌==◌, Bool, false, not, ◌&&◌, ◌||◌, nat_lt, if◌then◌else◌}
+use Rattle.std.specs.Prelude.{List, [], ◌∷◌, ◌++◌, length, take, flat_map, Option, Some, None}
 use Rattle.std.specs.Str.{bytes_eq}
 use Rattle.mc_text.specs.declared.kind.Kind.{Kind}
 use Rattle.mc_text.specs.declared.kind.Kind.TheVariants as kinds
@@ -37,7 +39,8 @@ leaves_out search name = not search.hidden && is_hidden name
 
 -- a thing that is passed over with all below it: its name is left out, or its path has more than 4,096 bytes
 abbrev pub is_passed_over : Search → List ℕ → Route → Bool
-is_passed_over search name folder = leaves_out search name || nat_lt 4096 (length (spelled_route (name ∷ folder)))
+is_passed_over search name folder =
+    leaves_out search name || nat_lt 4096 (length (spelled_route (name ∷ folder)))
 
 -- the content stands somewhere among the bytes
 abbrev pub holds : List ℕ → List ℕ → Bool
@@ -55,20 +58,23 @@ path_if is path = if is then Tells (Path path) ∷ [] else []
 
 -- what reading a file brings
 abbrev pub read_turns : FileSystem → Search → Route → List Turn
-read_turns s search path = brings (refusal_of s (ReadAt path 0 0)) path (path_if (holds search.content (node s (found_node s path)).bytes) path)
+read_turns s search path = brings (refusal_of s (ReadAt path 0 0)) path
+    (path_if (holds search.content (node s (found_node s path)).bytes) path)
 
 -- what a thing of a kind brings once it was looked at; `below` is what comes of what lies below it
 abbrev pub by_kind : Kind → FileSystem → Search → Bool → Route → List Turn → List Turn
 by_kind kinds.Folder s search is_named path below = if search.recursive then below else []
-by_kind kinds.File s search is_named path below = if is_named && not (is_by_name search) then read_turns s search path else []
+by_kind kinds.File s search is_named path below =
+    if is_named && not (is_by_name search) then read_turns s search path else []
 by_kind kinds.Link s search is_named path below = []
 by_kind kinds.Other s search is_named path below = []
 
--- a look at a thing, and what it brings: a folder what lies below it; a file itself, where the pattern finds its name and its
--- bytes hold the content that is looked for
+-- a look at a thing, and what it brings: a folder what lies below it; a file itself, where the pattern
+-- finds its name and its bytes hold the content that is looked for
 abbrev pub look_turns : FileSystem → Search → Bool → Route → List Turn → List Turn
 look_turns s search is_named path below =
-    At path ∷ brings (refusal_of s (Stat path)) path (by_kind (node s (found_node s path)).kind s search is_named path below)
+    At path ∷ brings (refusal_of s (Stat path)) path
+    (by_kind (node s (found_node s path)).kind s search is_named path below)
 
 -- a child of a folder: it is found at once where the name alone decides; then it is looked at
 abbrev pub child : FileSystem → Search → Bool → List ℕ → Route → List Turn → List Turn
@@ -84,7 +90,8 @@ names_in s folder = gathered_names s (found_node s folder) s.names
 -- the listing of a folder, and what it brings, where `below` says what comes of what lies below its children
 abbrev pub listing_turns : FileSystem → Search → Route → (Route → List Turn) → List Turn
 listing_turns s search folder below = At folder ∷ brings (refusal_of s (ListFolder folder)) folder
-    (flat_map (λ name. child s search (is_found search.name name) name folder (below (name ∷ folder))) (names_in s folder))
+    (flat_map (λ name. child s search (is_found search.name name) name folder (below (name ∷ folder)))
+    (names_in s folder))
 
 -- what comes of a folder, so many levels down
 unfoldable pub turns_within : ℕ → FileSystem → Search → Route → List Turn

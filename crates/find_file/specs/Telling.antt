@@ -1,5 +1,6 @@
 -- What an answer says of what is yet to come.
-use Rattle.std.specs.Prelude.{⊤, ◌≡◌, ◌≢◌, ◌≤◌, ◌<◌, ℕ, List, [], ◌∷◌, ◌++◌, map, Option, Some, None, Result, Ok, Err, IsOk}
+use Rattle.std.specs.Prelude.{⊤, ◌≡◌, ◌≢◌, ◌≤◌, ◌<◌, ℕ, List, [], ◌∷◌, ◌++◌}
+use Rattle.std.specs.Prelude.{map, Option, Some, None, Result, Ok, Err, IsOk}
 use Rattle.mc_text.specs.declared.error.NoMemory.{NoMemory}
 use Rattle.mc_text.specs.Routes.{Route}
 use Rattle.tree_trait.specs.declared.file_system.FileSystem.{FileSystem}
@@ -35,9 +36,10 @@ pub record Leads (before after : List Turn) : Type 0 where
   pub past : List Route
   pub is : before ≡ map At past ++ after
 
--- The device failed at a path, where the next look or listing is made: all that this one was to bring is missing, and nothing
--- else. The tree doesn't refuse it.
-pub record IsMissing (s : FileSystem) (search : Search) (path : Route) (before after : List Turn) : Type 0 where
+-- The device failed at a path, where the next look or listing is made: all that this one was to bring is
+-- missing, and nothing else. The tree doesn't refuse it.
+pub record IsMissing (s : FileSystem) (search : Search) (path : Route)
+    (before after : List Turn) : Type 0 where
   pub task : Task
   pub place : place_of task ≡ path
   pub allowed : refusal_of s (call_of task) ≡ None
@@ -83,7 +85,8 @@ abbrev pub with_task : Walk → Task → Walk
 with_task w task = record w { task = Some task }
 
 -- a walk stands so
-pub record StandsAt (w : Walk) (task : Option Task) (inner : OpenFolder) (around : List OpenFolder) : Type 0 where
+pub record StandsAt (w : Walk) (task : Option Task) (inner : OpenFolder)
+    (around : List OpenFolder) : Type 0 where
   pub task_is : w.task ≡ task
   pub inner_is : w.inner ≡ inner
   pub around_is : w.around.nearest ≡ around
@@ -94,11 +97,13 @@ path_of (Path path) = Some path
 path_of (Skipped path error) = Some path
 path_of End = None
 
--- Where a step at a task leaves a walk, whatever the tree holds. What is told is told of the task's path, and the folders that are
--- open stay; without memory the task waits; where nothing is told, a folder may be listed next, or is open besides.
+-- Where a step at a task leaves a walk, whatever the tree holds. What is told is told of the task's path,
+-- and the folders that are open stay; without memory the task waits; where nothing is told, a folder may be
+-- listed next, or is open besides.
 abbrev pub Leaves : Walk → Task → Result (Option Found) NoMemory → Walk → Type 0
 Leaves old task (Err error) new = StandsAt new (Some task) old.inner old.around.nearest
-Leaves old task (Ok (Some found)) new = (path_of found ≡ Some (place_of task)) × StandsAt new None old.inner old.around.nearest
+Leaves old task (Ok (Some found)) new =
+    (path_of found ≡ Some (place_of task)) × StandsAt new None old.inner old.around.nearest
 Leaves old (Look path is_named) (Ok None) new = StandsAt new new.task old.inner old.around.nearest
     × (new.task ≢ None → new.task ≡ Some (ListTask path))
 Leaves old (ListTask folder) (Ok None) new = (new.task ≡ None) × (new.inner.path ≡ folder)
@@ -119,7 +124,8 @@ cause_at (Ok None) = None
 cause_at (Ok (Some found)) = cause_of found
 cause_at (Err error) = None
 
--- the count of faults doesn't fall, a path is skipped for a fault only where it has risen, and never for want of memory
+-- the count of faults doesn't fall, a path is skipped for a fault only where it has risen, and
+-- never for want of memory
 pub record HasReason (before after : ℕ) (cause : Option TreeError) : Type 0 where
   pub later : before ≤ after
   pub risen : cause ≡ Some Fault → HasRisen before after
@@ -131,21 +137,25 @@ pub record IsOver (w : Walk) : Type 0 where
   pub no_child : w.inner.children ≡ []
   pub no_folder : w.around.nearest ≡ []
 
--- A step of a search that tells this: it is the first of what is yet to be found, or nothing. But for the end, fewer steps are left. It works
--- the walk's task and no other, and without one makes no call that could fail. Behind the end nothing is left. A path is skipped for a
--- fault only where the count of faults has risen.
-pub record IsStep (contents : Option CallLog) (faults faults_after : ℕ) (finder : Finder) (told : Option Found) (left : Finder) : Type 0 where
-  pub next : IfKnown contents (λ log. IsNext (yet_to_find (current log) finder) told (yet_to_find (current log) left))
+-- A step of a search that tells this: it is the first of what is yet to be found, or nothing. But
+-- for the end, fewer steps are left. It works the walk's task and no other, and without one makes no
+-- call that could fail. Behind the end nothing is left. A path is skipped for a fault only where the
+-- count of faults has risen.
+pub record IsStep (contents : Option CallLog) (faults faults_after : ℕ) (finder : Finder)
+    (told : Option Found) (left : Finder) : Type 0 where
+  pub next : IfKnown contents (λ log.
+      IsNext (yet_to_find (current log) finder) told (yet_to_find (current log) left))
   pub answer : IfKnown contents (λ log.
-      Advances (current log) finder.search (yet_to_come (current log) finder) (Ok told) (yet_to_come (current log) left))
+      Advances (current log) finder.search (yet_to_come (current log) finder) (Ok told)
+      (yet_to_come (current log) left))
   pub falls : told ≢ Some End → steps_left left < steps_left finder
   pub leaves : (task : Task) → finder.walk.task ≡ Some task → Leaves finder.walk task (Ok told) left.walk
   pub apart : finder.walk.task ≡ None → faults_after ≡ faults
   pub ended : told ≡ Some End → IsOver left.walk
   pub reason : HasReason faults faults_after (cause_at (Ok told))
 
--- a step without a call of the tree: what it tells, that fewer steps are left unless it tells the end, that no path is skipped,
--- and that it tells the end exactly where nothing is left
+-- a step without a call of the tree: what it tells, that fewer steps are left unless it tells the end, that
+-- no path is skipped, and that it tells the end exactly where nothing is left
 pub record Goes (search : Search) (old new : Walk) (result : Result (Option Found) NoMemory) : Type 0 where
   pub steps : (s : FileSystem) → Steps s search old result new
   pub falls : IsOk result → result ≢ Ok (Some End) → rank new < rank old
@@ -154,7 +164,8 @@ pub record Goes (search : Search) (old new : Walk) (result : Result (Option Foun
   pub over : IsOver old → result ≡ Ok (Some End)
 
 -- a step at a task of a walk, with a call of the tree: the same, but it never tells the end
-pub record Works (task : Task) (old new : Walk) (before after : ℕ) (result : Result (Option Found) NoMemory) : Type 0 where
+pub record Works (task : Task) (old new : Walk) (before after : ℕ)
+    (result : Result (Option Found) NoMemory) : Type 0 where
   pub falls : IsOk result → rank new < rank (with_task old task)
   pub reason : HasReason before after (cause_at result)
   pub not_end : result ≢ Ok (Some End)

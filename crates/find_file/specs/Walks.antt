@@ -1,5 +1,6 @@
 -- What is yet to come where a walk stands, and how many steps it has left at most.
-use Rattle.std.specs.Prelude.{ℕ, zero, suc, ◌+◌, ◌-◌, ◌*◌, ◌^◌, List, [], ◌∷◌, ◌++◌, length, flat_map, Option, Some, None}
+use Rattle.std.specs.Prelude.{ℕ, zero, suc, ◌+◌, ◌-◌, ◌*◌, ◌^◌, List, [], ◌∷◌}
+use Rattle.std.specs.Prelude.{◌++◌, length, flat_map, Option, Some, None}
 use Rattle.mc_text.specs.Routes.{Route, spelled_route}
 use Rattle.tree_trait.specs.declared.file_system.FileSystem.{FileSystem}
 use Rattle.find_file.specs.declared.opened.Child.{Child}
@@ -34,7 +35,8 @@ of_task s search (Some (ListTask folder)) = turns_below s search folder
 
 -- what is yet to come from where a walk stands: of its task, of the folder that is worked, of those around it
 abbrev pub left_of : FileSystem → Search → Option Task → OpenFolder → List OpenFolder → List Turn
-left_of s search task inner around = of_task s search task ++ (of_folder s search inner ++ of_folders s search around)
+left_of s search task inner around =
+    of_task s search task ++ (of_folder s search inner ++ of_folders s search around)
 
 abbrev pub left_in : FileSystem → Search → Walk → List Turn
 left_in s search w = left_of s search w.task w.inner w.around.nearest
@@ -46,8 +48,9 @@ yet_to_come s finder = left_in s finder.search finder.walk
 abbrev pub yet_to_find : FileSystem → Finder → List Found
 yet_to_find s finder = told_in (yet_to_come s finder)
 
--- How many steps are left at most. What lies below a folder isn't known before it is listed; but a path that is a name longer
--- has fewer bytes to go, and a folder has at most as many names as a number of 64 bits counts.
+-- How many steps are left at most. What lies below a folder isn't known before it is listed; but a
+-- path that is a name longer has fewer bytes to go, and a folder has at most as many names as a
+-- number of 64 bits counts.
 abbrev pub bytes_left : Route → ℕ
 bytes_left path = 4096 - length (spelled_route path)
 
@@ -74,6 +77,7 @@ rank_of task inner around = rank_of_task task + (rank_of_folder inner + rank_of_
 abbrev pub rank : Walk → ℕ
 rank w = rank_of w.task w.inner w.around.nearest
 
--- How many steps a search has left at most: each leaves fewer, but for those that tell the end (`IsStep`: `falls`).
+-- How many steps a search has left at most: each leaves fewer, but for those that tell the
+-- end (`IsStep`: `falls`).
 abbrev pub steps_left : Finder → ℕ
 steps_left finder = rank finder.walk

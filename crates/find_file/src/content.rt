@@ -1,5 +1,6 @@
 //! Whether a file holds some bytes.
-ghost use Rattle.std.specs.Prelude.{◌≡◌, ◌≤◌, ◌<◌, ◌-◌, ◌^◌, ◌++◌, length, drop, take, IfOk, IfSome, MatchOption};
+ghost use Rattle.std.specs.Prelude.{◌≡◌, ◌≤◌, ◌<◌, ◌-◌, ◌^◌, ◌++◌, length};
+ghost use Rattle.std.specs.Prelude.{drop, take, IfOk, IfSome, MatchOption};
 ghost use Rattle.tree_trait.specs.Calls.{ReadAt};
 ghost use Rattle.tree_trait.specs.FileSystem.{node};
 ghost use Rattle.tree_trait.specs.Change.{current, found_node};
@@ -17,8 +18,8 @@ const FILE_BYTES: u64 = 1 << 63;
 /// The most bytes that a piece has.
 const PIECE_BYTES: usize = 65536;
 
-/// Whether a file holds these bytes, of which there are some. It is read piece by piece up to the first place, and as many
-/// bytes are kept from one piece to the next as may begin a place.
+/// Whether a file holds these bytes, of which there are some. It is read piece by piece up to the first
+/// place, and as many bytes are kept from one piece to the next as may begin a place.
 pub fn file_holds<T: ReadTree>(
     alloc: Global,
     tree: &mut T,
@@ -28,7 +29,8 @@ pub fn file_holds<T: ReadTree>(
     requires some { 1 ≤ length content.now }
     ensures answer { IfKnown (T.contents tree.old) (λ log.
         length (node (current log) (found_node (current log) path.now)).bytes ≤ 2 ^ 63
-        → Reads log (ReadAt path.now 0 0) result (λ is. is ≡ holds content.now (node (current log) (found_node (current log) path.now)).bytes)) }
+        → Reads log (ReadAt path.now 0 0) result (λ is.
+        is ≡ holds content.now (node (current log) (found_node (current log) path.now)).bytes)) }
     ensures same { T.contents tree.new ≡ T.contents tree.old }
     ensures cause { HasCause TreeError.Fault (T.fault_count tree.old) (T.fault_count tree.new) result }
 {
@@ -47,7 +49,8 @@ fn read_through<T: ReadTree>(
     requires some { 1 ≤ length finder.now }
     ensures answer { IfKnown (T.contents tree.old) (λ log.
         length (node (current log) (found_node (current log) path.now)).bytes ≤ 2 ^ 63
-        → Reads log (ReadAt path.now 0 0) result (λ is. is ≡ holds finder.now (node (current log) (found_node (current log) path.now)).bytes)) }
+        → Reads log (ReadAt path.now 0 0) result (λ is.
+        is ≡ holds finder.now (node (current log) (found_node (current log) path.now)).bytes)) }
     ensures same { T.contents tree.new ≡ T.contents tree.old }
     ensures cause { HasCause TreeError.Fault (T.fault_count tree.old) (T.fault_count tree.new) result }
 {
@@ -86,7 +89,8 @@ fn next_piece<T: ReadTree>(
     requires { 1 ≤ most }
     ensures answer { IfKnown (T.contents tree.old) (λ log. Reads log (ReadAt path.now 0 0) result (λ piece.
         let file = (node (current log) (found_node (current log) path.now)).bytes in
-        MatchOption piece (length file ≤ offset) (λ bytes. bytes.items ≡ take (length bytes.items) (drop offset file)))) }
+        MatchOption piece (length file ≤ offset) (λ bytes.
+        bytes.items ≡ take (length bytes.items) (drop offset file)))) }
     ensures some { IfOk result (λ piece. IfSome piece (λ bytes. 1 ≤ length bytes.items)) }
     ensures same { T.contents tree.new ≡ T.contents tree.old }
     ensures cause { HasCause TreeError.Fault (T.fault_count tree.old) (T.fault_count tree.new) result }

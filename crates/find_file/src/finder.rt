@@ -23,8 +23,8 @@ pub struct Finder {
 }
 
 impl Finder {
-    /// A search for what lies below a folder and has a name that the pattern finds. Where there is a content and it isn't
-    /// empty, only files that hold it are looked for. It takes no memory.
+    /// A search for what lies below a folder and has a name that the pattern finds. Where there is a
+    /// content and it isn't empty, only files that hold it are looked for. It takes no memory.
     pub fn new(
         alloc: Global,
         start: Path,
@@ -34,9 +34,16 @@ impl Finder {
         hidden: bool,
     ) -> Result<Finder, NoMemory>
         ensures search { IfOk result (λ finder. finder.search
-            ≡ record { name = name; content = unwrap_or content []; recursive = recursive; hidden = hidden }) }
-        ensures turns { IfOk result (λ finder. (s : FileSystem) → yet_to_come s finder ≡ turns_below s finder.search start) }
-        ensures list { IfOk result (λ finder. (s : FileSystem) → yet_to_find s finder ≡ found_list s finder.search start) }
+            ≡ record {
+              name = name;
+              content = unwrap_or content [];
+              recursive = recursive;
+              hidden = hidden;
+            }) }
+        ensures turns { IfOk result (λ finder. (s : FileSystem)
+            → yet_to_come s finder ≡ turns_below s finder.search start) }
+        ensures list { IfOk result (λ finder. (s : FileSystem)
+            → yet_to_find s finder ≡ found_list s finder.search start) }
         ensures made { IsOk result }
     {
         let content = match content {
@@ -54,14 +61,15 @@ impl Finder {
         })
     }
 
-    /// One step of the search, which may tell nothing yet: at most a look and the read of a file, or a listing. Where memory is
-    /// short nothing is lost: the next step goes on.
+    /// One step of the search, which may tell nothing yet: at most a look and the read of a file, or a
+    /// listing. Where memory is short nothing is lost: the next step goes on.
     pub fn step<T: ReadTree>(
         &mut self,
         alloc: Global,
         tree: &mut T,
     ) -> Result<Option<Found>, NoMemory>
-        ensures step { IfOk result (λ told. IsStep (T.contents tree.old) (T.fault_count tree.old) (T.fault_count tree.new)
+        ensures step { IfOk result (λ told.
+            IsStep (T.contents tree.old) (T.fault_count tree.old) (T.fault_count tree.new)
             self.old told self.new) }
         ensures waits { OnErr result (IfKnown (T.contents tree.old) (λ log.
             yet_to_find (current log) self.new ≡ yet_to_find (current log) self.old)) }
@@ -71,7 +79,8 @@ impl Finder {
         ensures over { IsOver self.old.walk → (result ≡ Ok (Some Found.End)) × (tree.new ≡ tree.old) }
 
         // It is one step of the walk: it works the task, and without one doesn't touch the tree.
-        ensures leaves { (task : Task) → self.old.walk.task ≡ Some task → Leaves self.old.walk task result self.new.walk }
+        ensures leaves { (task : Task) → self.old.walk.task ≡ Some task
+            → Leaves self.old.walk task result self.new.walk }
         ensures apart { self.old.walk.task ≡ None → tree.new ≡ tree.old }
     {
         self.walk.step(alloc, tree, &self.search)
@@ -79,7 +88,8 @@ impl Finder {
 
     /// The next answer. Where memory is short nothing is lost: the next call goes on.
     pub fn next<T: ReadTree>(&mut self, alloc: Global, tree: &mut T) -> Result<Found, NoMemory>
-        // An answer is the first of what is yet to be found; or the device failed at the next look or listing.
+        // An answer is the first of what is yet to be found; or the device failed at
+        // the next look or listing.
         ensures first { IfKnown (T.contents tree.old) (λ log.
             IsFirst (yet_to_find (current log) self.old) result (yet_to_find (current log) self.new)) }
         ensures answer { IfKnown (T.contents tree.old) (λ log. Answers (current log) self.old.search

@@ -1,5 +1,6 @@
 //! Which of a folder's names a pattern finds.
-ghost use Rattle.std.specs.Prelude.{◌≡◌, ◌-◌, ◌≤◌, ◌^◌, false, length, ℕ, Bool, List, [], ◌∷◌, ◌++◌, map, reverse, filter, IfOk};
+ghost use Rattle.std.specs.Prelude.{◌≡◌, ◌-◌, ◌≤◌, ◌^◌, false, length, ℕ, Bool};
+ghost use Rattle.std.specs.Prelude.{List, [], ◌∷◌, ◌++◌, map, reverse, filter, IfOk};
 ghost use Rattle.std.specs.List.{slice_get};
 ghost use Rattle.std.specs.Option.{option_map_or};
 ghost use Rattle.std.specs.Str.{bytes_eq};
@@ -28,7 +29,8 @@ pub fn marked(alloc: Global, pattern: &Pattern, names: Names) -> Result<Vec<Chil
 
 /// Takes a name out of those that were found, where it is the last of them.
 fn take_last(found: &mut Vec<Name>, name: &Name) -> bool
-    ensures { (finds : List ℕ → Bool) (before : List (List ℕ)) → found.old.items ≡ filter finds (before ++ name.now ∷ [])
+    ensures { (finds : List ℕ → Bool) (before : List (List ℕ))
+        → found.old.items ≡ filter finds (before ++ name.now ∷ [])
         → (result ≡ finds name.now) × (found.new.items ≡ filter finds before) }
 {
     let is_last = is_last(found.as_slice(), name);
@@ -40,7 +42,8 @@ fn take_last(found: &mut Vec<Name>, name: &Name) -> bool
 
 /// Whether a name is the last of these.
 fn is_last(names: &[Name], name: &Name) -> bool
-    ensures { result ≡ option_map_or (λ last. bytes_eq last name.now) (slice_get names.now (length names.now - 1)) false }
+    ensures { result ≡ option_map_or (λ last. bytes_eq last name.now)
+        (slice_get names.now (length names.now - 1)) false }
 {
     match names.last() {
         Some(last) => last.same(name),

@@ -12,7 +12,8 @@ pub struct Child {
     pub is_named: bool,
 }
 
-/// A folder that is open: its path, and the children that are yet to be met, of which it keeps the last one first.
+/// A folder that is open: its path, and the children that are yet to be met, of which it
+/// keeps the last one first.
 #[derive(Debug, Drop)]
 pub struct Opened {
     path: Path,

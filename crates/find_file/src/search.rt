@@ -5,8 +5,9 @@ ghost use Rattle.find_file.specs.FoundList.{is_by_name, is_hidden, leaves_out};
 use mc_text::{Bytes, Name};
 use tagging::Pattern;
 
-/// What is looked for: a pattern for the name, and bytes that a file has to hold, where there are any. Where it isn't
-/// recursive only the children of the start are met, and without `hidden` no name that begins with a dot.
+/// What is looked for: a pattern for the name, and bytes that a file has to hold, where there are
+/// any. Where it isn't recursive only the children of the start are met, and without `hidden` no
+/// name that begins with a dot.
 #[derive(Debug, Drop)]
 pub struct Search {
     pub name: Pattern,

@@ -1,5 +1,6 @@
 //! The walk of a search: what is to be done next, the folder that is worked, and the open folders around it.
-ghost use Rattle.std.specs.Prelude.{◌≡◌, ◌≢◌, ◌<◌, ◌≤◌, ◌^◌, ◌∷◌, ◌&&◌, not, false, [], drop, length, map, None, Some, Ok, IfOk, IfErr, IfNone, IfSome, IsOk, OnOk, if◌then◌else◌};
+ghost use Rattle.std.specs.Prelude.{◌≡◌, ◌≢◌, ◌<◌, ◌≤◌, ◌^◌, ◌∷◌, ◌&&◌, not, false, [], drop, length, map};
+ghost use Rattle.std.specs.Prelude.{None, Some, Ok, IfOk, IfErr, IfNone, IfSome, IsOk, OnOk, if◌then◌else◌};
 ghost use Rattle.mc_text.specs.declared.kind.Kind.TheVariants.{File};
 ghost use Rattle.tree_trait.specs.declared.file_system.FileSystem.{FileSystem};
 ghost use Rattle.tree_trait.specs.Calls.{Stat};
@@ -10,7 +11,8 @@ ghost use Rattle.tree_trait.specs.Answers.{IfKnown};
 ghost use Rattle.find_file.specs.FoundList.{is_by_name};
 ghost use Rattle.find_file.specs.Folders.{child_of};
 ghost use Rattle.find_file.specs.Walks.{rank};
-ghost use Rattle.find_file.specs.Telling.{Goes, HasReason, IsOver, Leaves, StandsAt, Steps, Works, cause_at, place_of, with_task};
+ghost use Rattle.find_file.specs.Telling.{Goes, HasReason, IsOver, Leaves, StandsAt};
+ghost use Rattle.find_file.specs.Telling.{Steps, Works, cause_at, place_of, with_task};
 
 use crate::content::file_holds;
 use crate::found::Found;
@@ -26,8 +28,8 @@ use tree_walk::Around;
 /// What a walk does next, before it goes on with the children of the folder that is worked.
 #[derive(Debug, Drop)]
 pub enum Task {
-    /// To look at a thing: a folder is gone into, and a file is read where the pattern finds its name and a content is
-    /// looked for.
+    /// To look at a thing: a folder is gone into, and a file is read where the pattern finds its name and
+    /// a content is looked for.
     Look { path: Path, is_named: bool },
     /// To list a folder and go into it.
     List { folder: Path },
@@ -60,7 +62,8 @@ impl Walk {
         tree: &mut T,
         search: &Search,
     ) -> Result<Option<Found>, NoMemory>
-        ensures answer { IfKnown (T.contents tree.old) (λ log. Steps (current log) search.now self.old result self.new) }
+        ensures answer { IfKnown (T.contents tree.old) (λ log.
+            Steps (current log) search.now self.old result self.new) }
         ensures falls { IsOk result → result ≢ Ok (Some Found.End) → rank self.new < rank self.old }
         ensures reason { HasReason (T.fault_count tree.old) (T.fault_count tree.new) (cause_at result) }
         ensures same { T.contents tree.new ≡ T.contents tree.old }
@@ -98,7 +101,8 @@ impl Walk {
     /// Goes back to the folder around.
     fn leave(&mut self) -> Option<Found>
         ensures back { IfNone result (self.old.around.nearest ≡ self.new.inner ∷ self.new.around.nearest) }
-        ensures over { IfSome result (λ told. (told ≡ Found.End) × (self.old.around.nearest ≡ []) × (self.new.around.nearest ≡ [])
+        ensures over { IfSome result (λ told. (told ≡ Found.End) × (self.old.around.nearest ≡ [])
+            × (self.new.around.nearest ≡ [])
             × (self.new.inner ≡ self.old.inner)) }
         ensures same { self.new.task ≡ self.old.task }
     {
@@ -114,7 +118,9 @@ impl Walk {
     /// Passes a child over, with all below it.
     fn pass(&mut self) -> Option<Found>
         ensures none { result ≡ None }
-        ensures passed { self.new ≡ record self.old { inner = record self.old.inner { children = drop 1 self.old.inner.children } } }
+        ensures passed { self.new ≡ record self.old {
+          inner = record self.old.inner { children = drop 1 self.old.inner.children };
+        } }
     {
         self.inner.pass();
         None
@@ -128,7 +134,8 @@ impl Walk {
         path: Path,
         is_named: bool,
     ) -> Result<Option<Found>, NoMemory>
-        ensures told { IfOk result (λ told. told ≡ (if is_named && is_by_name search.now then Some (Found.Path path) else None)) }
+        ensures told { IfOk result (λ told.
+            told ≡ (if is_named && is_by_name search.now then Some (Found.Path path) else None)) }
         ensures next { OnOk result (self.new ≡ record self.old {
           task = Some (Task.Look path is_named);
           inner = record self.old.inner { children = drop 1 self.old.inner.children };
@@ -167,7 +174,8 @@ impl Walk {
         requires { self.old.task ≡ None }
         ensures answer { IfKnown (T.contents tree.old) (λ log.
             Steps (current log) search.now (with_task self.old (Task.Look path is_named)) result self.new) }
-        ensures works { Works (Task.Look path is_named) self.old self.new (T.fault_count tree.old) (T.fault_count tree.new) result }
+        ensures works { Works (Task.Look path is_named) self.old self.new (T.fault_count tree.old)
+            (T.fault_count tree.new) result }
         ensures same { T.contents tree.new ≡ T.contents tree.old }
     {
         match tree.stat(alloc, &path) {
@@ -184,7 +192,8 @@ impl Walk {
     /// A folder is listed next, where the search is recursive.
     fn go_into(&mut self, search: &Search, folder: Path) -> Option<Found>
         ensures none { result ≡ None }
-        ensures next { self.new ≡ (if search.now.recursive then with_task self.old (Task.List folder) else self.old) }
+        ensures next { self.new
+            ≡ (if search.now.recursive then with_task self.old (Task.List folder) else self.old) }
     {
         if search.recursive {
             self.task = Some(Task::List { folder });
@@ -207,7 +216,8 @@ impl Walk {
             → (node (current log) (found_node (current log) path)).kind ≡ File
             → length (node (current log) (found_node (current log) path)).bytes ≤ 2 ^ 63
             → Steps (current log) search.now (with_task self.old (Task.Look path is_named)) result self.new) }
-        ensures works { Works (Task.Look path is_named) self.old self.new (T.fault_count tree.old) (T.fault_count tree.new) result }
+        ensures works { Works (Task.Look path is_named) self.old self.new (T.fault_count tree.old)
+            (T.fault_count tree.new) result }
         ensures apart { (is_named && not (is_by_name search.now)) ≡ false → tree.new ≡ tree.old }
         ensures same { T.contents tree.new ≡ T.contents tree.old }
     {
@@ -232,7 +242,8 @@ impl Walk {
         requires { self.old.task ≡ None }
         ensures answer { IfKnown (T.contents tree.old) (λ log.
             Steps (current log) search.now (with_task self.old (Task.List folder)) result self.new) }
-        ensures works { Works (Task.List folder) self.old self.new (T.fault_count tree.old) (T.fault_count tree.new) result }
+        ensures works { Works (Task.List folder) self.old self.new (T.fault_count tree.old)
+            (T.fault_count tree.new) result }
         ensures same { T.contents tree.new ≡ T.contents tree.old }
     {
         let _short = folder.names();
@@ -252,8 +263,10 @@ impl Walk {
     ) -> Result<Option<Found>, NoMemory>
         requires { self.old.task ≡ None }
         ensures entered { IfOk result (λ told. (told ≡ None) × StandsAt self.new None
-            (record { path = folder; children = map (child_of search.now.name) names }) (self.old.inner ∷ self.old.around.nearest)) }
-        ensures waits { IfErr result (λ _. StandsAt self.new (Some (Task.List folder)) self.old.inner self.old.around.nearest) }
+            (record { path = folder; children = map (child_of search.now.name) names })
+            (self.old.inner ∷ self.old.around.nearest)) }
+        ensures waits { IfErr result (λ _.
+            StandsAt self.new (Some (Task.List folder)) self.old.inner self.old.around.nearest) }
         ensures few { IfOk result (λ _. length self.new.inner.children ≤ 2 ^ 64) }
     {
         let Ok(()) = self.around.reserve() else {
@@ -282,8 +295,10 @@ impl Walk {
 
     /// A call of the tree was refused: that is told, but for want of memory, where the task waits.
     fn refused(&mut self, task: Task, error: TreeError) -> Result<Option<Found>, NoMemory>
-        ensures told { IfOk result (λ told. (told ≡ Some (Found.Skipped (place_of task) error)) × (error ≢ TreeError.Memory) × (self.new ≡ self.old)) }
-        ensures waits { IfErr result (λ _. (error ≡ TreeError.Memory) × (self.new ≡ with_task self.old task)) }
+        ensures told { IfOk result (λ told. (told ≡ Some (Found.Skipped (place_of task) error))
+            × (error ≢ TreeError.Memory) × (self.new ≡ self.old)) }
+        ensures waits { IfErr result
+            (λ _. (error ≡ TreeError.Memory) × (self.new ≡ with_task self.old task)) }
     {
         match error {
             TreeError::Memory => {

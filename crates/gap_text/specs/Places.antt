@@ -1,4 +1,5 @@
--- Where bytes stand in a text: the places that a search finds. Own; mcedit(1) says only that a search goes forward.
+-- Where bytes stand in a text: the places that a search finds. Own; mcedit(1) says only
+-- that a search goes forward.
 use Rattle.std.specs.Prelude.{ℕ, ◌+◌, ◌<◌, ◌≤◌, ◌==◌, nat_eq, Bool, IsTrue, if◌then◌else◌}
 use Rattle.std.specs.Prelude.{List, [], ◌∷◌, length, drop, Option, Some, None, MatchOption}
 use Rattle.std.specs.List.{starts_with}
@@ -10,7 +11,8 @@ stands_at text bytes at = starts_with nat_eq (drop at text) bytes
 -- the first place in a rest of the text where the bytes stand; the rest begins at place `at`
 unfoldable pub place_in : List ℕ → List ℕ → ℕ → Option ℕ
 place_in [] bytes at = None
-place_in (x ∷ rest) bytes at = if starts_with nat_eq (x ∷ rest) bytes then Some at else place_in rest bytes (at + 1)
+place_in (x ∷ rest) bytes at =
+    if starts_with nat_eq (x ∷ rest) bytes then Some at else place_in rest bytes (at + 1)
 
 -- the first place at or after `from` where the bytes stand; an empty text stands nowhere
 abbrev pub first_place : List ℕ → List ℕ → ℕ → Option ℕ

@@ -1,5 +1,6 @@
 //! A text with a point, kept in one block with a gap at the point.
-ghost use Rattle.std.specs.Prelude.{◌≡◌, ◌+◌, ◌^◌, ◌<◌, ◌≤◌, ◌++◌, length, take, drop, slice_index, slice_range, vec_len};
+ghost use Rattle.std.specs.Prelude.{◌≡◌, ◌+◌, ◌^◌, ◌<◌, ◌≤◌, ◌++◌, length, take};
+ghost use Rattle.std.specs.Prelude.{drop, slice_index, slice_range, vec_len};
 ghost use Rattle.std.specs.Prelude.{IfOk, OnOk, OnErr};
 ghost use Rattle.memchr.specs.Find.{IsFirst, IsLast, Passes, is_byte};
 ghost use Rattle.gap_text.specs.Places.{first_place, IsLeastPlace};
@@ -11,8 +12,8 @@ use mc_text::{Bytes, NoMemory};
 use std::alloc::Global;
 use std::marker::Model;
 
-/// Bytes, and the point at which they are changed. The gap lies at the point: `room` holds the bytes before it, then
-/// the gap from `gap_start` to `gap_end`, whose bytes mean nothing, then the bytes after it.
+/// Bytes, and the point at which they are changed. The gap lies at the point: `room` holds the bytes before
+/// it, then the gap from `gap_start` to `gap_end`, whose bytes mean nothing, then the bytes after it.
 #[derive(Drop)]
 pub struct GapBuffer {
     room: Vec<u8>,
@@ -88,7 +89,8 @@ impl GapBuffer {
         }
     }
 
-    /// Moves the point to a place. The bytes between the two points are moved over the gap; it takes no memory.
+    /// Moves the point to a place. The bytes between the two points are moved over the
+    /// gap; it takes no memory.
     pub fn move_to(&mut self, at: usize)
         requires { at ≤ length self.old.bytes }
         ensures { self.new ≡ moved_to self.old at }
@@ -100,9 +102,9 @@ impl GapBuffer {
         }
     }
 
-    /// Puts bytes before the point, which then stands after them. Takes time linear in the bytes. Where the gap is too
-    /// short for them, the block grows by at least a quarter, so many insertions at one place take time linear in the
-    /// text and all their bytes.
+    /// Puts bytes before the point, which then stands after them. Takes time linear in the bytes. Where the
+    /// gap is too short for them, the block grows by at least a quarter, so many insertions at one place
+    /// take time linear in the text and all their bytes.
     pub fn insert(&mut self, bytes: &[u8]) -> Result<(), NoMemory>
         ensures done { OnOk result (self.new ≡ inserted_text self.old bytes.now) }
         ensures refused { OnErr result (self.new ≡ self.old) }
@@ -111,8 +113,8 @@ impl GapBuffer {
         self.replace(0, bytes)
     }
 
-    /// The next `count` bytes after the point give way to new ones, and the point stands after these. Their room is
-    /// taken first, so the block grows only where the new ones don't fit into it and the gap.
+    /// The next `count` bytes after the point give way to new ones, and the point stands after these. Their
+    /// room is taken first, so the block grows only where the new ones don't fit into it and the gap.
     pub fn replace(&mut self, count: usize, bytes: &[u8]) -> Result<(), NoMemory>
         requires { self.old.point + count ≤ length self.old.bytes }
         ensures done { OnOk result (self.new ≡ inserted_text (deleted_text self.old count) bytes.now) }
@@ -125,7 +127,8 @@ impl GapBuffer {
         Ok(())
     }
 
-    /// Takes out the next `count` bytes after the point, in constant time. It takes no memory, and gives none back.
+    /// Takes out the next `count` bytes after the point, in constant time. It takes no
+    /// memory, and gives none back.
     pub fn delete(&mut self, count: usize)
         requires { self.old.point + count ≤ length self.old.bytes }
         ensures { self.new ≡ deleted_text self.old count }
@@ -133,9 +136,10 @@ impl GapBuffer {
         self.gap_end += count;
     }
 
-    /// The first place at or after `from` where the bytes stand: an empty text is never found, nor is any past the end.
-    /// Takes time linear in the text and the bytes, and at each of the `bytes.len() - 1` places from which they would
-    /// lie on both sides of the point the time to compare them up to the first difference.
+    /// The first place at or after `from` where the bytes stand: an empty text is never found, nor is
+    /// any past the end. Takes time linear in the text and the bytes, and at each of the
+    /// `bytes.len() - 1` places from which they would lie on both sides of the point the time to compare
+    /// them up to the first difference.
     pub fn find(&self, from: usize, bytes: &[u8]) -> Option<usize>
         ensures found { result ≡ first_place self.now.bytes bytes.now from }
         ensures least { 0 < length bytes.now → IsLeastPlace self.now.bytes bytes.now from result }
@@ -234,7 +238,8 @@ fn part_of(half: &[u8], from: usize, to: usize) -> &[u8]
     &half[from.min(end)..end]
 }
 
-/// Makes the gap from `start` to `end` at least `count` bytes long, and gives its new end. The bytes around it stay.
+/// Makes the gap from `start` to `end` at least `count` bytes long, and gives its new end.
+/// The bytes around it stay.
 fn with_gap_of(
     room: &mut Vec<u8>,
     start: usize,

@@ -22,7 +22,8 @@ pub struct LineMark {
     pub lines: usize,
 }
 
-/// How many newlines a half has. The blocks that weren't counted yet are noted in `counts`, as far as there is memory.
+/// How many newlines a half has. The blocks that weren't counted yet are noted in `counts`,
+/// as far as there is memory.
 pub fn count_on(counts: &mut Vec<usize>, half: &[u8], side: Side) -> usize
     requires { AreCounts counts.old.items (seen_from side half.now) }
     ensures counted { AreCounts counts.new.items (seen_from side half.now) }
@@ -87,7 +88,8 @@ pub fn mark_in_front(counts: &[usize], front: &[u8], lines: usize) -> LineMark
     }
 }
 
-/// The start of the last counted block with no more newlines before it than these, or the end, or else the start.
+/// The start of the last counted block with no more newlines before it than these, or
+/// the end, or else the start.
 pub fn mark_in_back(counts: &[usize], back: &[u8], all: usize, lines: usize) -> LineMark
     requires counts { AreCounts counts.now (seen_from Back back.now) }
     requires all { all ≡ newlines back.now }

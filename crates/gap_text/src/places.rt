@@ -32,7 +32,8 @@ fn place_in_half(half: &[u8], from: usize, bytes: &[u8]) -> Option<usize>
     Some(from + at)
 }
 
-/// The first place at or after `from` from which the bytes would pass the end of `front`, and where they stand.
+/// The first place at or after `from` from which the bytes would pass the end of
+/// `front`, and where they stand.
 fn place_on_seam(front: &[u8], back: &[u8], from: usize, bytes: &[u8]) -> Option<usize>
     requires { 0 < length bytes.now }
     ensures { let low = max from (length front.now + 1 - length bytes.now) in

@@ -1,5 +1,6 @@
 //! A text with a point, in which lines are found by their number.
-ghost use Rattle.std.specs.Prelude.{◌≡◌, ◌+◌, ◌-◌, ◌*◌, ◌<◌, ◌≤◌, ◌^◌, ◌++◌, length, take, drop, slice_index, slice_range};
+ghost use Rattle.std.specs.Prelude.{◌≡◌, ◌+◌, ◌-◌, ◌*◌, ◌<◌, ◌≤◌, ◌^◌, ◌++◌};
+ghost use Rattle.std.specs.Prelude.{length, take, drop, slice_index, slice_range};
 ghost use Rattle.std.specs.Prelude.{IfOk, OnOk, OnErr};
 ghost use Rattle.memchr.specs.Find.{IsFirst, IsLast, Passes, is_byte};
 ghost use Rattle.gap_text.specs.Places.{first_place, IsLeastPlace};
@@ -12,10 +13,11 @@ use mc_text::{Bytes, NoMemory};
 use std::alloc::Global;
 use std::marker::Model;
 
-/// Bytes, and the point at which they are changed. Beside the gap buffer newlines are counted by blocks of 64 KiB, before
-/// the point from the text's start and after it from the text's end, so a change takes back only the counts of blocks
-/// that the point has passed. `line_mark` counts those that are missing: a line is found in the time of the bytes that
-/// were put in or passed by the point since, of a number for each block, and of at most three blocks.
+/// Bytes, and the point at which they are changed. Beside the gap buffer newlines are counted by blocks of
+/// 64 KiB, before the point from the text's start and after it from the text's end, so a change takes back
+/// only the counts of blocks that the point has passed. `line_mark` counts those that are missing: a line
+/// is found in the time of the bytes that were put in or passed by the point since, of a number for each
+/// block, and of at most three blocks.
 #[derive(Drop)]
 pub struct GapText {
     buffer: GapBuffer,
@@ -100,7 +102,8 @@ impl GapText {
         self.buffer.back()
     }
 
-    /// Moves the point to a place. The bytes between the two points are moved over the gap; it takes no memory.
+    /// Moves the point to a place. The bytes between the two points are moved over the
+    /// gap; it takes no memory.
     pub fn move_to(&mut self, at: usize)
         requires { at ≤ length self.old.bytes }
         ensures { self.new ≡ moved_to self.old at }
@@ -112,9 +115,9 @@ impl GapText {
         self.buffer.move_to(at);
     }
 
-    /// Puts bytes before the point, which then stands after them. Takes time linear in the bytes. Where the gap is too
-    /// short for them, the block grows by at least a quarter, so many insertions at one place take time linear in the
-    /// text and all their bytes.
+    /// Puts bytes before the point, which then stands after them. Takes time linear in the bytes. Where the
+    /// gap is too short for them, the block grows by at least a quarter, so many insertions at one place
+    /// take time linear in the text and all their bytes.
     pub fn insert(&mut self, bytes: &[u8]) -> Result<(), NoMemory>
         ensures done { OnOk result (self.new ≡ inserted_text self.old bytes.now) }
         ensures refused { OnErr result (self.new ≡ self.old) }
@@ -124,8 +127,8 @@ impl GapText {
         Ok(())
     }
 
-    /// The next `count` bytes after the point give way to new ones, and the point stands after these. The block grows
-    /// only where the new ones don't fit into their room and the gap.
+    /// The next `count` bytes after the point give way to new ones, and the point stands after these. The
+    /// block grows only where the new ones don't fit into their room and the gap.
     pub fn replace(&mut self, count: usize, bytes: &[u8]) -> Result<(), NoMemory>
         requires { self.old.point + count ≤ length self.old.bytes }
         ensures done { OnOk result (self.new ≡ inserted_text (deleted_text self.old count) bytes.now) }
@@ -137,7 +140,8 @@ impl GapText {
         Ok(())
     }
 
-    /// Takes out the next `count` bytes after the point, in constant time. It takes no memory, and gives none back.
+    /// Takes out the next `count` bytes after the point, in constant time. It takes no
+    /// memory, and gives none back.
     pub fn delete(&mut self, count: usize)
         requires { self.old.point + count ≤ length self.old.bytes }
         ensures { self.new ≡ deleted_text self.old count }
@@ -147,9 +151,10 @@ impl GapText {
         self.buffer.delete(count);
     }
 
-    /// The first place at or after `from` where the bytes stand: an empty text is never found, nor is any past the end.
-    /// Takes time linear in the text and the bytes, and at each of the `bytes.len() - 1` places from which they would
-    /// lie on both sides of the point the time to compare them up to the first difference.
+    /// The first place at or after `from` where the bytes stand: an empty text is never found, nor is
+    /// any past the end. Takes time linear in the text and the bytes, and at each of the
+    /// `bytes.len() - 1` places from which they would lie on both sides of the point the time to compare
+    /// them up to the first difference.
     pub fn find(&self, from: usize, bytes: &[u8]) -> Option<usize>
         ensures found { result ≡ first_place self.now.bytes bytes.now from }
         ensures least { 0 < length bytes.now → IsLeastPlace self.now.bytes bytes.now from result }
@@ -173,7 +178,8 @@ impl GapText {
         self.buffer.byte_before(to, byte)
     }
 
-    /// A place with no more newlines before it than these: the last block's end of which that holds, or the point.
+    /// A place with no more newlines before it than these: the last block's end of which
+    /// that holds, or the point.
     pub fn line_mark(&mut self, lines: usize) -> LineMark
         ensures counted { result.lines ≡ newlines (take result.place self.old.bytes) }
         ensures before { result.lines ≤ lines }

@@ -11,8 +11,8 @@ use mc_text::NoMemory;
 use std::alloc::Global;
 use std::marker::Model;
 
-/// The changes that stand, and those that were undone. Both rings have room for `depth` changes from the start, and
-/// together they never hold more, so a change that goes from one to the other takes no memory.
+/// The changes that stand, and those that were undone. Both rings have room for `depth` changes from the
+/// start, and together they never hold more, so a change that goes from one to the other takes no memory.
 #[derive(Drop)]
 pub struct Undo {
     past: HeapCircularBuffer<Change>,
@@ -46,7 +46,8 @@ impl Undo {
         })
     }
 
-    /// Notes a change that was made. All that was undone is dropped, and the oldest change where there is no more room.
+    /// Notes a change that was made. All that was undone is dropped, and the oldest change
+    /// where there is no more room.
     pub fn note(&mut self, change: Change)
         ensures { self.new ≡ noted_history self.old change }
     {
@@ -54,8 +55,8 @@ impl Undo {
         self.past.push_front(change);
     }
 
-    /// Takes the newest change out of the past, and shows it: the caller takes it back in the text. It never answers
-    /// NoMemory.
+    /// Takes the newest change out of the past, and shows it: the caller takes it back in the text.
+    /// It never answers NoMemory.
     pub fn undo(&mut self) -> Result<Option<&Change>, NoMemory>
         ensures succeeds { IsOk result }
         ensures shown { IfOk result (λ shown. option_copied shown ≡ slice_get self.old.past 0) }
@@ -69,7 +70,8 @@ impl Undo {
         }
     }
 
-    /// Puts the change that was undone last back into the past, and shows it: the caller makes it again in the text.
+    /// Puts the change that was undone last back into the past, and shows it: the caller
+    /// makes it again in the text.
     pub fn redo(&mut self) -> Option<&Change>
         ensures shown { option_copied result ≡ slice_get self.old.future 0 }
         ensures* after { sem 𝓛 (follows_so the_row the_row self.entry.ghost_name none (λ _ _. ⊤)

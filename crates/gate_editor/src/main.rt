@@ -1,5 +1,6 @@
-//! Plays random lists of commands on small texts, by the editor and by the rules written out on plain lists, and says
-//! whether both always had the same outcome, text and point. A number as the word is how many lists; else there are 10,000.
+//! Plays random lists of commands on small texts, by the editor and by the rules written out on plain
+//! lists, and says whether both always had the same outcome, text and point. A number as the word is how
+//! many lists; else there are 10,000.
 #![tactic(auto)]
 
 mod brackets;

@@ -1,5 +1,6 @@
-//! Each device on the machine itself: rows of calls of the tree in folders of their own, and of the other devices. Of each row
-//! its answer is printed. The expected lines stand in `stdout`, written from the rules.
+//! Each device on the machine itself: rows of calls of the tree in folders of their own, and
+//! of the other devices. Of each row its answer is printed. The expected lines stand in
+//! `stdout`, written from the rules.
 #![tactic(auto)]
 
 mod calls;

@@ -1,7 +1,8 @@
 //! The rows: calls of the tree, and commands for the shell.
 
-/// Scenes with a blank line between them, each of which begins with its title and is played in a new folder. A row is a command
-/// for the shell, or a call, its path and a word more. A path is below the folder, or begins with a slash.
+/// Scenes with a blank line between them, each of which begins with its title and is played in a new
+/// folder. A row is a command for the shell, or a call, its path and a word more. A path is below the
+/// folder, or begins with a slash.
 pub fn scenes() -> &'static str {
     SCENES
 }
@@ -156,7 +157,8 @@ sync_folder no
 sync_folder p
 
 # A listing has each name
-sh printf hello >b; chmod 6640 b; TZ=UTC0 touch -t 197001010016.40 b; : >Z; mkdir -p f/g; ln -s f l; mkfifo -m 640 p
+sh printf hello >b; chmod 6640 b; TZ=UTC0 touch -t 197001010016.40 b; : >Z; mkdir -p f/g; ln -s f l
+sh mkfifo -m 640 p
 sh : >\"$(printf 'x\\377')\"
 list
 stat b

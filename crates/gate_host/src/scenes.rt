@@ -4,7 +4,8 @@ use mc_text::Path;
 use rows_page::{Page, two_fields};
 use tree_trait::{Spawner, Tree};
 
-/// The title of a scene, and each of its rows with its answer. They are played in the folder `rows` of the one that is here.
+/// The title of a scene, and each of its rows with its answer. They are played in the folder `rows`
+/// of the one that is here.
 pub fn tell_scene<T: Tree, P: Spawner>(
     page: &mut Page,
     tree: &mut T,

@@ -1,4 +1,5 @@
-//! Runs the rows of formats, the tree in memory, plans, copies, resolving, listings, answers, modes and saves.
+//! Runs the rows of formats, the tree in memory, plans, copies, resolving, listings,
+//! answers, modes and saves.
 #![tactic(auto)]
 
 use rows_page::{Fault, Page, Sections, run};

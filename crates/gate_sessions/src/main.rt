@@ -1,5 +1,6 @@
-//! Whole runs over devices in memory: of each its tree, devices, folder, words and keys, and what comes of them. The rows stand
-//! in `stdin`, the expected lines in `stdout`, written from the rules. Behind them stands every moment of the sessions of `rows_crashes`.
+//! Whole runs over devices in memory: of each its tree, devices, folder, words and keys, and what comes of
+//! them. The rows stand in `stdin`, the expected lines in `stdout`, written from the rules. Behind them
+//! stands every moment of the sessions of `rows_crashes`.
 #![tactic(auto)]
 
 mod frames;

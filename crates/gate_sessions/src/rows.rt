@@ -4,8 +4,9 @@ use mc_main::Env;
 use mc_text::{Bytes, Text};
 use rows_page::{Page, two_fields};
 
-/// A run: its tree; its devices, which are `telling` what they hold, as those whose screen is `shown` too, or silent, and which of
-/// their calls fail; the folder in which it is started; its words, where `''` is an empty one; and its keys.
+/// A run: its tree; its devices, which are `telling` what they hold, as those whose screen is `shown` too,
+/// or silent, and which of their calls fail; the folder in which it is started; its words, where `''` is an
+/// empty one; and its keys.
 #[derive(Clone, Copy)]
 pub struct Row<'a> {
     pub tree: &'a str,
@@ -79,8 +80,8 @@ pub fn text_of(page: &mut Page, text: &str) -> Text {
     }
 }
 
-/// The surroundings of a run. Behind its folder may stand `home` and the text of HOME. A screen that is shown has 10 lines of 40
-/// columns.
+/// The surroundings of a run. Behind its folder may stand `home` and the text of HOME. A screen that is
+/// shown has 10 lines of 40 columns.
 pub fn env_of(page: &mut Page, row: &Row<'_>) -> Env {
     let (folder, home) = two_fields(row.folder, ' ');
     let is_shown = row.device == "shown";

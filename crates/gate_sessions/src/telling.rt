@@ -8,7 +8,8 @@ use std::alloc::Global;
 use std::convert::AsStr;
 use tree_trait::{Tree, TreeError};
 
-/// The status, what was printed where no session began, the keys and the steps of the history, and what stands in the folders.
+/// The status, what was printed where no session began, the keys and the steps of the history, and
+/// what stands in the folders.
 pub fn tell_outcome<T: Tree>(
     page: &mut Page,
     status: u8,
@@ -27,7 +28,8 @@ pub fn tell_outcome<T: Tree>(
     }
 }
 
-/// Each row that isn't blank of a screen of 10 lines and 40 columns that was given these bytes, on a line of its own.
+/// Each row that isn't blank of a screen of 10 lines and 40 columns that was given these
+/// bytes, on a line of its own.
 pub fn tell_screen(page: &mut Page, bytes: &[u8]) {
     match read_grid(page.alloc(), 10, 40, bytes) {
         Ok(grid) => tell_lines(page, grid.cells()),

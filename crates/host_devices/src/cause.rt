@@ -39,7 +39,8 @@ pub fn naming_cause_of(error: &io::Error) -> TreeError
 
 /// What the system answered, with its error by a tree's name.
 pub fn answer_of<T>(answer: io::Result<T>) -> Result<T, TreeError>
-    ensures { MatchResult answer (λ value. result ≡ Ok value) (λ error. result ≡ Err (cause_of_kind (error_kind error))) }
+    ensures { MatchResult answer (λ value. result ≡ Ok value)
+        (λ error. result ≡ Err (cause_of_kind (error_kind error))) }
 {
     match answer {
         Ok(value) => Ok(value),

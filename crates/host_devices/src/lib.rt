@@ -1,5 +1,6 @@
-//! The real devices but for the files: the keyboard, the screen, the shell and the clock of this machine; and what all devices have in common.
-//! What the machine does is trusted; proved is that each device meets its trait, and counts a fault before it answers one.
+//! The real devices but for the files: the keyboard, the screen, the shell and the clock of this machine;
+//! and what all devices have in common. What the machine does is trusted; proved is that each device meets
+//! its trait, and counts a fault before it answers one.
 #![tactic(auto)]
 
 mod cause;

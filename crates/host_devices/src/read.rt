@@ -4,7 +4,8 @@ ghost use Rattle.std.specs.Prelude.{◌≤◌, length, IfOk};
 use std::io;
 use std::io::{ErrorKind, Read};
 
-/// The most turns of a loop over what the system gives: a folder's names, a command's output, or interrupted reads.
+/// The most turns of a loop over what the system gives: a folder's names, a command's
+/// output, or interrupted reads.
 pub const TURNS: u64 = 4_294_967_296;
 
 /// Reads once, and once more where a signal came in between.

@@ -43,7 +43,8 @@ impl<R: Processes + Files> Spawner for Device<Sh, R> {
     }
 }
 
-/// Runs a command to its end. Room for the output is taken first: once the command runs, nothing wants memory.
+/// Runs a command to its end. Room for the output is taken first: once the command
+/// runs, nothing wants memory.
 fn run_shell<R: Processes + Files>(
     rt: &R,
     alloc: Global,
@@ -66,8 +67,9 @@ fn run_shell<R: Processes + Files>(
     }
 }
 
-/// Starts the shell with an empty input, and with one pipe for both of its outputs, whose end it hands back. Its own
-/// ends of the pipe are gone with the `Command`: while one were open, the output would have no end.
+/// Starts the shell with an empty input, and with one pipe for both of its outputs, whose end it
+/// hands back. Its own ends of the pipe are gone with the `Command`: while one were open, the
+/// output would have no end.
 fn start<R: Processes + Files>(
     rt: &R,
     alloc: Global,

@@ -7,7 +7,8 @@ use std::io::Input;
 use std::marker::Model;
 use tree_trait::{Source, SourceFault};
 
-/// The standard input. Contracts see how often it has failed. It tells nothing of the bytes that are still to come.
+/// The standard input. Contracts see how often it has failed. It tells nothing of the
+/// bytes that are still to come.
 #[derive(Drop)]
 pub struct StdinSource<R: Input> {
     reader: R::Reader,

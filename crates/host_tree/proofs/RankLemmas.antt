@@ -56,3 +56,6 @@ less_by_rank mine theirs a b is other small_a small_b h =
 pub greater_by_rank : (mine theirs : ℕ) (a b : List ℕ) → mine ≡ rank_of a → theirs ≡ rank_of b → AreBytes a → AreBytes b → theirs < mine → Greater ≡ name_cmp a b
 greater_by_rank mine theirs a b is other small_a small_b h =
     ap ordering_reverse (less_by_rank theirs mine b a other is small_b small_a h) ∙ sym (nat_list_cmp_total.antisymm a b)
+
+-- how two names are ordered, by their ranks
+pub ruleset orders_by_rank = (less_by_rank, greater_by_rank)

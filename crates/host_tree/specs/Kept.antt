@@ -1,5 +1,6 @@
 -- Files that are kept open, by their paths, the oldest first (own).
-use Rattle.std.specs.Prelude.{◌≡◌, ◌-◌, ◌<◌, true, not, List, [], ◌∷◌, ◌++◌, length, drop, filter, Contains, vec_len, vec_capacity}
+use Rattle.std.specs.Prelude.{◌≡◌, ◌-◌, ◌<◌, true, not, List, [], ◌∷◌, ◌++◌, length}
+use Rattle.std.specs.Prelude.{drop, filter, Contains, vec_len, vec_capacity}
 use Rattle.std.specs.Prelude.{Vec}
 use Rattle.mc_text.specs.Routes.{Route, same_path, is_prefix}
 use Rattle.host_tree.specs.declared.kept.KeptFile.{KeptFile}

@@ -1,5 +1,5 @@
--- What a thing is, by its mode as the system has it (POSIX.1-2017, `<sys/stat.h>`, with Linux's numbers), and which calls
--- it refuses.
+-- What a thing is, by its mode as the system has it (POSIX.1-2017, `<sys/stat.h>`, with Linux's numbers),
+-- and which calls it refuses.
 use Rattle.std.specs.Prelude.{ℕ, ◌==◌, if◌then◌else◌, bit_and, Option, None, Some}
 use Rattle.mc_text.specs.declared.kind.Kind.{Kind}
 use Rattle.mc_text.specs.declared.kind.Kind.TheVariants.{File, Folder, Link, Other}
@@ -17,8 +17,8 @@ kind_of_bits bits =
 abbrev pub kind_of_mode : ℕ → Kind
 kind_of_mode mode = kind_of_bits (bit_and mode 0o170000)
 
--- why a call that wants one kind of thing is refused where another stands (POSIX.1-2017, EISDIR, ENOTDIR and EINVAL of
--- open, opendir and readlink; a link and a special file are never opened)
+-- why a call that wants one kind of thing is refused where another stands (POSIX.1-2017, EISDIR, ENOTDIR
+-- and EINVAL of open, opendir and readlink; a link and a special file are never opened)
 abbrev pub refusal_of_kind : Wanted → Kind → Option TreeError
 refusal_of_kind Wanted.File File = None
 refusal_of_kind Wanted.File Folder = Some IsFolder

@@ -1,5 +1,6 @@
 -- Folders that were seen, by the texts of their paths, the oldest first (own).
-use Rattle.std.specs.Prelude.{◌≡◌, ◌-◌, ◌<◌, ℕ, true, not, List, [], ◌∷◌, ◌++◌, length, drop, filter, Contains, vec_len, vec_capacity, string_bytes}
+use Rattle.std.specs.Prelude.{◌≡◌, ◌-◌, ◌<◌, ℕ, true, not, List, [], ◌∷◌, ◌++◌, length}
+use Rattle.std.specs.Prelude.{drop, filter, Contains, vec_len, vec_capacity, string_bytes}
 use Rattle.std.specs.Prelude.{Vec}
 use Rattle.std.specs.Str.{bytes_eq}
 use Rattle.host_tree.specs.declared.seen.SeenThing.{SeenThing}
@@ -7,7 +8,8 @@ use Rattle.host_tree.specs.declared.seen.Identity.{Identity}
 
 -- one of them was seen at this path, and it was this one
 abbrev pub WasSeen : List SeenThing → List ℕ → Identity → Type 0
-WasSeen folders text identity = (seen : SeenThing) × Contains folders seen × (bytes_eq (string_bytes seen.text) text ≡ true) × (seen.identity ≡ identity)
+WasSeen folders text identity = (seen : SeenThing) × Contains folders seen
+    × (bytes_eq (string_bytes seen.text) text ≡ true) × (seen.identity ≡ identity)
 
 -- one more can be put behind them without memory
 abbrev pub HasRoom : {A : Type 0} → Vec SeenThing A → Type 0

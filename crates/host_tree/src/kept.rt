@@ -91,7 +91,8 @@ impl<F: Drop> Kept<F> {
         }
     }
 
-    /// Keeps one more file in place of what was kept of its path. Where they become too many, the oldest is closed.
+    /// Keeps one more file in place of what was kept of its path. Where they become too
+    /// many, the oldest is closed.
     pub fn keep(&mut self, file: KeptFile<F>)
         requires { HasRoom self.old.files }
         ensures { self.new.files.items ≡ with_newest self.old.files.items file }

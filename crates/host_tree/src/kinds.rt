@@ -58,7 +58,8 @@ pub fn facts_at<R: Files>(rt: &R, text: &str) -> Result<Metadata, TreeError> {
 
 /// Refuses what isn't of the kind that a call wants.
 pub fn require_kind(facts: &Metadata, wanted: Wanted) -> Result<(), TreeError>
-    ensures refused { IfSome (refusal_of_kind wanted (kind_of_mode (metadata_mode facts.now))) (λ refusal. result ≡ Err refusal) }
+    ensures refused { IfSome (refusal_of_kind wanted (kind_of_mode (metadata_mode facts.now))) (λ refusal.
+        result ≡ Err refusal) }
     ensures passed { refusal_of_kind wanted (kind_of_mode (metadata_mode facts.now)) ≡ None → IsOk result }
 {
     match kind_refusal(wanted, kind_of(facts)) {

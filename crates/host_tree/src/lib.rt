@@ -1,5 +1,5 @@
-//! The files of this machine, as a tree. What the machine does is trusted; proved is that the tree meets its trait, and counts a fault before it
-//! answers one.
+//! The files of this machine, as a tree. What the machine does is trusted; proved is that the tree meets
+//! its trait, and counts a fault before it answers one.
 #![tactic(auto)]
 
 mod kept;

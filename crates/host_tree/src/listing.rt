@@ -1,5 +1,6 @@
 //! What a folder holds.
-ghost use Rattle.std.specs.Prelude.{◌≡◌, ◌<◌, ℕ, List, length, Contains, Some, None, IfOk, OnOk, OnErr, IsUtf8};
+ghost use Rattle.std.specs.Prelude.{◌≡◌, ◌<◌, ℕ, List, length, Contains};
+ghost use Rattle.std.specs.Prelude.{Some, None, IfOk, OnOk, OnErr, IsUtf8};
 ghost use Rattle.mc_text.specs.Names.{name_fault};
 ghost use Rattle.tree_trait.specs.Answers.{IsAscending};
 ghost use Rattle.host_tree.specs.Listing.{IsNamed, IsCounted};
@@ -12,7 +13,8 @@ use std::io::Read;
 use std::rt::Files;
 use tree_trait::{Children, TreeError};
 
-/// The children of the folder with this path. A name that is no `Name`, because it is not UTF-8 or is too long for one, is counted alone.
+/// The children of the folder with this path. A name that is no `Name`, because it is not UTF-8 or is too
+/// long for one, is counted alone.
 pub fn children_of<R: Files>(rt: &R, alloc: Global, text: &str) -> Result<Children, TreeError>
     ensures { IfOk result (λ children. IsAscending children.names) }
 {
@@ -23,7 +25,8 @@ pub fn children_of<R: Files>(rt: &R, alloc: Global, text: &str) -> Result<Childr
     Ok(Children { names, unnamed })
 }
 
-/// Reads the names to their end. They come in no order, and in a folder that changes meanwhile one may come twice.
+/// Reads the names to their end. They come in no order, and in a folder that changes
+/// meanwhile one may come twice.
 fn read_names<D: Read>(alloc: Global, folder: &mut D) -> Result<Children, TreeError> {
     let mut found = Children {
         names: Names::new(alloc),
@@ -82,8 +85,10 @@ fn add_name(alloc: Global, bytes: &[u8], found: &mut Children) -> Result<(), Tre
 /// The names in the order of their bytes, each once.
 fn in_order(alloc: Global, names: Vec<Name>) -> Result<Vec<Name>, TreeError>
     ensures ascending { IfOk result (λ sorted. IsAscending sorted.items) }
-    ensures keeps { IfOk result (λ sorted. (name : List ℕ) → Contains names.items name → Contains sorted.items name) }
-    ensures adds_none { IfOk result (λ sorted. (name : List ℕ) → Contains sorted.items name → Contains names.items name) }
+    ensures keeps { IfOk result (λ sorted. (name : List ℕ) → Contains names.items name
+        → Contains sorted.items name) }
+    ensures adds_none { IfOk result
+        (λ sorted. (name : List ℕ) → Contains sorted.items name → Contains names.items name) }
 {
     let sorted = sorted_once(ranked(alloc, names)?);
     let names = unranked(alloc, sorted)?;

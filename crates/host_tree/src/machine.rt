@@ -1,5 +1,5 @@
-//! The files of the machine, and those of them that are open. The calls stand by topic in `looking`, `reading`, `writing`
-//! and `naming`.
+//! The files of the machine, and those of them that are open. The calls stand by topic in `looking`,
+//! `reading`, `writing` and `naming`.
 ghost use Rattle.std.specs.Prelude.{◌≡◌, [], None, IfOk};
 ghost use Rattle.mc_text.specs.Routes.{path_text};
 
@@ -19,8 +19,8 @@ pub struct Machine<R: Files> {
     pub rt: R,
     /// What was looked at on the ways of paths.
     pub walked: Walked,
-    /// Files that were made, written or given a mode, until they are synced: a mode without the bit to read or write
-    /// then hinders neither the writes nor the sync.
+    /// Files that were made, written or given a mode, until they are synced: a mode without the bit to read
+    /// or write then hinders neither the writes nor the sync.
     pub kept: Kept<R::File>,
     /// The file that was read last, if it is still what it was.
     pub read: Kept<R::File>,

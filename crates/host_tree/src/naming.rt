@@ -35,7 +35,8 @@ impl<R: Files> Machine<R> {
         answer_of(symlink(&self.rt, target, text.as_str()))
     }
 
-    /// Gives a thing another name. What is open at either path or below it is closed, since the paths mean others now.
+    /// Gives a thing another name. What is open at either path or below it is closed, since
+    /// the paths mean others now.
     pub fn rename(&mut self, alloc: Global, from: &Path, to: &Path) -> Result<(), TreeError>
         ensures closed { OnOk result (self.new.kept.files.items
             ≡ forgetting_below (forgetting_below self.old.kept.files.items from.now) to.now) }
@@ -57,7 +58,8 @@ impl<R: Files> Machine<R> {
 
     /// Removes the name of a thing. The system refuses it where the thing is a folder.
     pub fn remove_file(&mut self, alloc: Global, path: &Path) -> Result<(), TreeError>
-        ensures closed { OnOk result (self.new.kept.files.items ≡ forgetting self.old.kept.files.items path.now) }
+        ensures closed { OnOk result
+            (self.new.kept.files.items ≡ forgetting self.old.kept.files.items path.now) }
         ensures reads { self.new.read.files.items ≡ [] }
         ensures refused { OnErr result (self.new.kept ≡ self.old.kept) }
     {
@@ -70,7 +72,8 @@ impl<R: Files> Machine<R> {
 
     /// Removes the name of an empty folder. The system follows no link there, and finds it no folder.
     pub fn remove_folder(&mut self, alloc: Global, path: &Path) -> Result<(), TreeError>
-        ensures closed { OnOk result (self.new.kept.files.items ≡ forgetting_below self.old.kept.files.items path.now) }
+        ensures closed { OnOk result
+            (self.new.kept.files.items ≡ forgetting_below self.old.kept.files.items path.now) }
         ensures reads { self.new.read.files.items ≡ [] }
         ensures refused { OnErr result (self.new.kept ≡ self.old.kept) }
     {

@@ -43,7 +43,7 @@ impl RankedName {
     }
 
     /// How two names stand in the order of their bytes.
-    #[tactic(auto, using(crate::proofs::RankLemmas::less_by_rank, crate::proofs::RankLemmas::greater_by_rank))]
+    #[tactic(auto, using(crate::proofs::RankLemmas::orders_by_rank))]
     pub fn order(&self, other: &RankedName) -> Ordering
         ensures { result ≡ name_cmp self.now other.now }
     {

@@ -14,9 +14,9 @@ use std::marker::Model;
 use std::rt::Files;
 use tree_trait::TreeError;
 
-/// What was looked at on the ways of paths. The folder looked at last is a folder, as are all above it; it is remembered, since a look at each
-/// folder on the way would make each call dearer by one look a folder. Of any other one look asks whether it is the very folder, or file,
-/// that was seen at the end of its way.
+/// What was looked at on the ways of paths. The folder looked at last is a folder, as are all above it; it
+/// is remembered, since a look at each folder on the way would make each call dearer by one look a folder.
+/// Of any other one look asks whether it is the very folder, or file, that was seen at the end of its way.
 #[derive(Drop)]
 pub struct Walked {
     folder: Option<String>,
@@ -84,7 +84,8 @@ impl Walked {
     }
 }
 
-/// The text of a path, whose folders before the last name are looked at first, since the system follows links there.
+/// The text of a path, whose folders before the last name are looked at first, since the
+/// system follows links there.
 pub fn real_text<R: Files>(
     rt: &R,
     alloc: Global,
@@ -120,7 +121,8 @@ fn look_at_way<R: Files>(
     Ok(())
 }
 
-/// What the system tells of a thing, on whose way is no link. Where it is the very thing that was seen there, one look tells that too.
+/// What the system tells of a thing, on whose way is no link. Where it is the very thing that was seen
+/// there, one look tells that too.
 pub fn look_at<R: Files>(
     rt: &R,
     alloc: Global,
@@ -150,8 +152,8 @@ fn facts_if<R: Files>(rt: &R, text: &str, seen: Identity) -> Option<Metadata> {
 /// The bytes for which a path's text has room from the start.
 const ROOM_BYTES: usize = 256;
 
-/// The text of a path. It has room from the start: a text that grows is moved from place to place, and what these moves leave
-/// behind makes every later allocation dearer.
+/// The text of a path. It has room from the start: a text that grows is moved from place to place, and what
+/// these moves leave behind makes every later allocation dearer.
 pub fn text_at_once(alloc: Global, path: &Path) -> Result<Text, NoMemory>
     ensures { IfOk result (λ text. text ≡ path_text path.now) }
 {
@@ -167,7 +169,8 @@ pub fn text_at_once(alloc: Global, path: &Path) -> Result<Text, NoMemory>
     Ok(Text(text))
 }
 
-/// Looks at a folder and at those above it, the uppermost first, unless it is the very folder that was seen there.
+/// Looks at a folder and at those above it, the uppermost first, unless it is the very
+/// folder that was seen there.
 fn walk<R: Files>(rt: &R, alloc: Global, seen: &mut Seen, folder: &str) -> Result<(), TreeError> {
     if folder.is_empty() || is_still_there(rt, seen, folder) {
         return Ok(());

@@ -1,5 +1,7 @@
-//! What was seen at the end of a way on which no folder is a link, and by what the system tells it from all else.
-ghost use Rattle.std.specs.Prelude.{◌≡◌, ◌<◌, ◌≤◌, [], length, string_bytes, IfOk, IfSome, OnOk, vec_len, vec_capacity};
+//! What was seen at the end of a way on which no folder is a link, and by what the
+//! system tells it from all else.
+ghost use Rattle.std.specs.Prelude.{◌≡◌, ◌<◌, ◌≤◌, [], length, string_bytes};
+ghost use Rattle.std.specs.Prelude.{IfOk, IfSome, OnOk, vec_len, vec_capacity};
 ghost use Rattle.std.specs.Str.{bytes_eq};
 ghost use Rattle.host_tree.specs.declared.seen.TheConstants.{SEEN_FOLDERS};
 ghost use Rattle.host_tree.specs.Seen.{WasSeen, HasRoom, forgetting, newest, with_newest};
@@ -10,8 +12,8 @@ use std::os::unix::fs::MetadataExt;
 use std::time::SystemTime;
 use tree_trait::TreeError;
 
-/// By what the system tells a thing from all else: its device, its number there, and when it was made, since a number is given
-/// to another thing once its own is gone.
+/// By what the system tells a thing from all else: its device, its number there, and when it was made,
+/// since a number is given to another thing once its own is gone.
 #[derive(Clone, Copy, PartialEq, Eq)]
 pub struct Identity {
     device: u64,
@@ -88,7 +90,8 @@ impl Seen {
         Ok(String::from_str(alloc, text)?)
     }
 
-    /// Remembers one more in place of what was seen at its path. Where they become too many, the oldest is forgotten.
+    /// Remembers one more in place of what was seen at its path. Where they become too many,
+    /// the oldest is forgotten.
     pub fn note(&mut self, folder: SeenThing)
         requires { HasRoom self.old.folders }
         ensures { self.new.folders.items ≡ with_newest self.old.folders.items folder }

@@ -81,8 +81,8 @@ where
         })
     }
 
-    /// Sets the mode of a file or a folder, and keeps it open where the old mode lets it be read: the new one may hinder
-    /// the sync. Where neither lets it be read, nothing is set.
+    /// Sets the mode of a file or a folder, and keeps it open where the old mode lets it be read: the new
+    /// one may hinder the sync. Where neither lets it be read, nothing is set.
     pub fn set_mode(&mut self, alloc: Global, path: &Path, mode: u16) -> Result<(), TreeError>
         ensures read { self.new.read.files.items ≡ [] }
     {
@@ -109,10 +109,11 @@ where
         answer
     }
 
-    /// Brings a file, or the names of a folder, onto the disk, and closes it. Where it isn't open to be written the look comes first, since an
-    /// open would follow a link, and wait for ever at a pipe.
+    /// Brings a file, or the names of a folder, onto the disk, and closes it. Where it isn't open to be
+    /// written the look comes first, since an open would follow a link, and wait for ever at a pipe.
     pub fn sync(&mut self, alloc: Global, path: &Path, wanted: Wanted) -> Result<(), TreeError>
-        ensures closed { OnOk result (self.new.kept.files.items ≡ forgetting self.old.kept.files.items path.now) }
+        ensures closed { OnOk result
+            (self.new.kept.files.items ≡ forgetting self.old.kept.files.items path.now) }
         ensures refused { OnErr result (self.new.kept ≡ self.old.kept) }
     {
         if wanted == Wanted::File && self.kept.is_written(path) {
@@ -148,8 +149,8 @@ where
 /// The bit of a mode that lets the owner read.
 const OWNER_READS: u16 = 0o400;
 
-/// Sets the mode of what couldn't be opened. One that bars the owner would bar the sync too, so the open's refusal is
-/// answered then, before anything is changed.
+/// Sets the mode of what couldn't be opened. One that bars the owner would bar the sync too, so the open's
+/// refusal is answered then, before anything is changed.
 fn set_unopened<R: Files>(
     rt: &R,
     text: &str,
@@ -187,8 +188,8 @@ fn access_by(mode: u16) -> Access {
     }
 }
 
-/// Writes bytes at an offset of a file, and leaves its mode: where the writer isn't root, the system takes the set-id bits away at
-/// a write, and they are set again.
+/// Writes bytes at an offset of a file, and leaves its mode: where the writer isn't root, the system takes
+/// the set-id bits away at a write, and they are set again.
 fn put_with_mode<F: FileExt + OpenFile>(
     file: &F,
     offset: u64,

@@ -1,10 +1,13 @@
--- The grammar of a hotlist's file: which bytes mean which list (own). It is apart from reading and from printing.
-use Rattle.std.specs.Prelude.{◌≡◌, ℕ, zero, suc, ◌+◌, Bool, true, false, not, ◌&&◌, if◌then◌else◌, List, [], ◌∷◌, ◌++◌, Option, Some, None, option_map}
+-- The grammar of a hotlist's file: which bytes mean which list (own). It is apart from
+-- reading and from printing.
+use Rattle.std.specs.Prelude.{◌≡◌, ℕ, zero, suc, ◌+◌, Bool, true, false, not, ◌&&◌}
+use Rattle.std.specs.Prelude.{if◌then◌else◌, List, [], ◌∷◌, ◌++◌, Option, Some, None, option_map}
 use Rattle.std.specs.Str.{IsUtf8, is_utf8}
 use Rattle.std.specs.Str.Lossy.{utf8_valid_len}
 use Rattle.text_scan.specs.Lines.{lines_of}
 use Rattle.hotlist.specs.HotLists.{HotList, NoMore, AnEntry, AGroup, is_within}
-use Rattle.hotlist.specs.HotLines.{ParsedLine, EntryLine, GroupLine, EndLine, LineReading, Passed, Parsed, Bad, reading_of}
+use Rattle.hotlist.specs.HotLines.{ParsedLine, EntryLine, GroupLine, EndLine}
+use Rattle.hotlist.specs.HotLines.{LineReading, Passed, Parsed, Bad, reading_of}
 use Rattle.hotlist.specs.declared.error.HotError.{HotError}
 use Rattle.hotlist.specs.declared.error.HotError.TheVariants.{NotText, BadLine, TooDeep, UnclosedGroup}
 
@@ -12,7 +15,8 @@ use Rattle.hotlist.specs.declared.error.HotError.TheVariants.{NotText, BadLine, 
 abbrev pub lines_that_say : HotList → List ParsedLine
 lines_that_say NoMore = []
 lines_that_say (AnEntry label path others) = EntryLine label path ∷ lines_that_say others
-lines_that_say (AGroup label items others) = GroupLine label ∷ (lines_that_say items ++ EndLine ∷ lines_that_say others)
+lines_that_say (AGroup label items others) =
+    GroupLine label ∷ (lines_that_say items ++ EndLine ∷ lines_that_say others)
 
 -- what one line says, before what the others say
 abbrev pub said_before : LineReading → Option (List ParsedLine) → Option (List ParsedLine)
@@ -37,8 +41,8 @@ outermost [] = 0
 outermost (line ∷ []) = line
 outermost (line ∷ next ∷ lines) = outermost (next ∷ lines)
 
--- the fault of a line at `at`, or that of the lines behind it, where `room` groups may be opened yet, and those of the
--- lines `unclosed` are open
+-- the fault of a line at `at`, or that of the lines behind it, where `room` groups may be opened yet, and
+-- those of the lines `unclosed` are open
 abbrev pub fault_at : LineReading → ℕ → ℕ → List ℕ → (ℕ → List ℕ → Option HotError) → Option HotError
 fault_at Passed at room unclosed behind = behind room unclosed
 fault_at Bad at room unclosed behind = Some (BadLine at)
@@ -52,7 +56,8 @@ fault_at (Parsed EndLine) at room (line ∷ unclosed) behind = behind (suc room)
 abbrev pub fault_from : ℕ → List (List ℕ) → ℕ → List ℕ → Option HotError
 fault_from at [] room [] = None
 fault_from at [] room (line ∷ unclosed) = Some (UnclosedGroup (outermost (line ∷ unclosed)))
-fault_from at (line ∷ lines) room unclosed = fault_at (reading_of line) at room unclosed (fault_from (at + 1) lines)
+fault_from at (line ∷ lines) room unclosed =
+    fault_at (reading_of line) at room unclosed (fault_from (at + 1) lines)
 
 -- the first fault of a file: bytes that are no text, or else a line
 abbrev pub hotlist_fault : List ℕ → Option HotError

@@ -1,6 +1,7 @@
--- The lines of a hotlist's file (own, after mc(1), "Hotlist"): ENTRY "label" URL "path", GROUP "label", ENDGROUP.
--- Bytes: tab 9, blank 32, " 34, # 35, \ 92.
-use Rattle.std.specs.Prelude.{ℕ, Bool, true, false, ◌==◌, ◌||◌, if◌then◌else◌, List, [], ◌∷◌, Option, Some, None, option_and_then, codes}
+-- The lines of a hotlist's file (own, after mc(1), "Hotlist"): ENTRY "label" URL "path", GROUP "label",
+-- ENDGROUP. Bytes: tab 9, blank 32, " 34, # 35, \ 92.
+use Rattle.std.specs.Prelude.{ℕ, Bool, true, false, ◌==◌, ◌||◌, if◌then◌else◌, List}
+use Rattle.std.specs.Prelude.{[], ◌∷◌, Option, Some, None, option_and_then, codes}
 
 -- what a line says: an entry, the begin of a group, or the end of one
 pub data ParsedLine : Type 0 where
@@ -40,10 +41,12 @@ abbrev pub with_byte : ℕ → Option ReadText → Option ReadText
 with_byte byte None = None
 with_byte byte (Some read) = Some (record { text = byte ∷ read.text; rest = read.rest })
 
--- a text up to the quote that ends it; a backslash stands before a quote or a backslash, and before nothing else
+-- a text up to the quote that ends it; a backslash stands before a quote or a
+-- backslash, and before nothing else
 abbrev pub up_to_quote : Bool → List ℕ → Option ReadText
 up_to_quote escaped [] = None
-up_to_quote true (byte ∷ text) = if byte == 34 || byte == 92 then with_byte byte (up_to_quote false text) else None
+up_to_quote true (byte ∷ text) =
+    if byte == 34 || byte == 92 then with_byte byte (up_to_quote false text) else None
 up_to_quote false (byte ∷ text) =
     if byte == 34 then Some (record { text = []; rest = text }) else
     if byte == 92 then up_to_quote true text else with_byte byte (up_to_quote false text)

@@ -1,5 +1,5 @@
--- The items of a hotlist (mc(1), "Hotlist"; the form of the file is own). A list is seen as its first item before the
--- others.
+-- The items of a hotlist (mc(1), "Hotlist"; the form of the file is own). A list is seen as its
+-- first item before the others.
 use Rattle.std.specs.Prelude.{ℕ, zero, suc, Bool, true, false, ◌&&◌, List, [], ◌∷◌, map, Option, Some, None}
 use Rattle.text_scan.specs.Lines.{IsWithout}
 use Rattle.hotlist.specs.declared.items.HotItem.{HotItem}

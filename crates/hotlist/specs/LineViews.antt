@@ -29,9 +29,11 @@ with_bytes bytes (Some read) = Some (record { text = bytes ++ read.text; rest = 
 
 -- an entry's path behind its label
 abbrev pub path_behind : List ℕ → Option said.ReadText
-path_behind text = option_and_then said.spaced_text (option_and_then (said.behind_word (codes "URL")) (said.behind_blanks text))
+path_behind text = option_and_then said.spaced_text
+    (option_and_then (said.behind_word (codes "URL")) (said.behind_blanks text))
 
 -- a line by its first word
 abbrev pub reading_of_text : List ℕ → said.LineReading
 reading_of_text text =
-    said.behind_first_word (said.behind_word (codes "ENTRY") text) (said.behind_word (codes "GROUP") text) (said.behind_word (codes "ENDGROUP") text)
+    said.behind_first_word (said.behind_word (codes "ENTRY") text) (said.behind_word (codes "GROUP") text)
+    (said.behind_word (codes "ENDGROUP") text)

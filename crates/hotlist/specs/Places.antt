@@ -1,5 +1,6 @@
 -- Places in a hotlist: a position in the list, then one in that group, and so on, each counted from 0 (own).
-use Rattle.std.specs.Prelude.{ℕ, zero, suc, ◌-◌, Bool, true, false, List, [], ◌∷◌, length, Option, Some, None, is_none, option_map}
+use Rattle.std.specs.Prelude.{ℕ, zero, suc, ◌-◌, Bool, true, false, List, [], ◌∷◌}
+use Rattle.std.specs.Prelude.{length, Option, Some, None, is_none, option_map}
 use Rattle.hotlist.specs.declared.error.HotEditError.{HotEditError}
 use Rattle.hotlist.specs.declared.error.HotEditError.TheVariants.{NoSuchGroup, TooDeep}
 use Rattle.hotlist.specs.HotLists.{HotList, NoMore, AnEntry, AGroup, is_within}
@@ -35,13 +36,17 @@ followed_by NoMore second = second
 followed_by (AnEntry label path others) second = AnEntry label path (followed_by others second)
 followed_by (AGroup label items others) second = AGroup label items (followed_by others second)
 
--- the list with the items of the group at a position changed; nothing where no group stands there, or it can't be changed
+-- the list with the items of the group at a position changed; nothing where no group stands
+-- there, or it can't be changed
 abbrev pub changed_at : ℕ → (HotList → Option HotList) → HotList → Option HotList
 changed_at position change NoMore = None
 changed_at zero change (AnEntry label path others) = None
-changed_at zero change (AGroup label items others) = option_map (λ changed. AGroup label changed others) (change items)
-changed_at (suc position) change (AnEntry label path others) = option_map (AnEntry label path) (changed_at position change others)
-changed_at (suc position) change (AGroup label items others) = option_map (AGroup label items) (changed_at position change others)
+changed_at zero change (AGroup label items others) =
+    option_map (λ changed. AGroup label changed others) (change items)
+changed_at (suc position) change (AnEntry label path others) =
+    option_map (AnEntry label path) (changed_at position change others)
+changed_at (suc position) change (AGroup label items others) =
+    option_map (AGroup label items) (changed_at position change others)
 
 -- the list with an item at the end of the group at a place; the empty place names the list itself
 abbrev pub list_with_item : List ℕ → HotList → HotList → Option HotList
@@ -54,17 +59,21 @@ fault_of true fits = Some NoSuchGroup
 fault_of false false = Some TooDeep
 fault_of false true = None
 
--- why an item isn't added to the group at a place: none stands there, or else groups would nest to more than 32 levels
+-- why an item isn't added to the group at a place: none stands there, or else groups would
+-- nest to more than 32 levels
 abbrev pub add_fault : List ℕ → HotList → HotList → Option HotEditError
-add_fault group item list = fault_of (is_none (list_with_item group item list)) (is_within (32 - length group) item)
+add_fault group item list =
+    fault_of (is_none (list_with_item group item list)) (is_within (32 - length group) item)
 
 -- the list without the item at a position
 abbrev pub without_position : ℕ → HotList → Option HotList
 without_position position NoMore = None
 without_position zero (AnEntry label path others) = Some others
 without_position zero (AGroup label items others) = Some others
-without_position (suc position) (AnEntry label path others) = option_map (AnEntry label path) (without_position position others)
-without_position (suc position) (AGroup label items others) = option_map (AGroup label items) (without_position position others)
+without_position (suc position) (AnEntry label path others) =
+    option_map (AnEntry label path) (without_position position others)
+without_position (suc position) (AGroup label items others) =
+    option_map (AGroup label items) (without_position position others)
 
 -- the list without the item at a place
 abbrev pub list_without_item : List ℕ → HotList → Option HotList

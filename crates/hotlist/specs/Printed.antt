@@ -1,5 +1,5 @@
--- A hotlist as its file is printed (own): a line for each entry, and for the begin and the end of each group, with two
--- blanks for each group around it and one blank between words.
+-- A hotlist as its file is printed (own): a line for each entry, and for the begin and the end of each
+-- group, with two blanks for each group around it and one blank between words.
 use Rattle.std.specs.Prelude.{ℕ, zero, suc, Bool, ◌==◌, ◌||◌, if◌then◌else◌, List, [], ◌∷◌, ◌++◌, codes}
 use Rattle.std.specs.List.{flat_map}
 use Rattle.hotlist.specs.HotLists.{HotList, NoMore, AnEntry, AGroup}
@@ -33,6 +33,8 @@ line_of depth words = indent depth words ++ 10 ∷ []
 -- a list with so many groups around it
 abbrev pub printed_list : ℕ → HotList → List ℕ
 printed_list depth NoMore = []
-printed_list depth (AnEntry label path others) = line_of depth (entry_words label path) ++ printed_list depth others
+printed_list depth (AnEntry label path others) =
+    line_of depth (entry_words label path) ++ printed_list depth others
 printed_list depth (AGroup label items others) =
-    line_of depth (group_words label) ++ (printed_list (suc depth) items ++ (line_of depth end_words ++ printed_list depth others))
+    line_of depth (group_words label)
+    ++ (printed_list (suc depth) items ++ (line_of depth end_words ++ printed_list depth others))

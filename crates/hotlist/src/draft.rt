@@ -1,5 +1,6 @@
 //! A list, as far as its file is read.
-ghost use Rattle.std.specs.Prelude.{◌≡◌, ◌≢◌, [], ◌∷◌, ◌++◌, ◌≤◌, OnOk, IfErr, Some, ℕ, List, Option, vec_len};
+ghost use Rattle.std.specs.Prelude.{◌≡◌, ◌≢◌, [], ◌∷◌, ◌++◌, ◌≤◌, OnOk};
+ghost use Rattle.std.specs.Prelude.{IfErr, Some, ℕ, List, Option, vec_len};
 ghost use Rattle.hotlist.specs.HotLines.{ParsedLine, GroupLine, EndLine, Parsed};
 ghost use Rattle.hotlist.specs.HotFiles.{fault_at, said_before};
 ghost use Rattle.hotlist.specs.LineViews.{parsed_line, reading_view};
@@ -13,7 +14,8 @@ use mc_text::{NoMemory, Text};
 use std::alloc::Global;
 use std::mem;
 
-/// A group whose end is still to come: its label, its line, and the items that stand before it in the list around it.
+/// A group whose end is still to come: its label, its line, and the items that stand before
+/// it in the list around it.
 #[derive(Drop)]
 pub struct OpenGroup {
     pub label: Text,
@@ -47,10 +49,12 @@ impl Draft {
     /// Takes what was read of the line `at`.
     pub fn take_line(&mut self, alloc: Global, read: LineRead, at: usize) -> Result<(), HotError>
         requires { vec_len self.old.groups ≤ 32 }
-        ensures said { OnOk result ((others : Option (List ParsedLine)) → with_said (said_so_far self.new) others
+        ensures said { OnOk result ((others : Option (List ParsedLine))
+            → with_said (said_so_far self.new) others
             ≡ with_said (said_so_far self.old) (said_before (reading_view read) others)) }
         ensures goes_on { OnOk result ((behind : ℕ → List ℕ → Option HotError) →
-            fault_at (reading_view read) at (room_in self.old) (unclosed_in self.old) behind ≡ behind (room_in self.new) (unclosed_in self.new)) }
+            fault_at (reading_view read) at (room_in self.old) (unclosed_in self.old) behind
+            ≡ behind (room_in self.new) (unclosed_in self.new)) }
         ensures limited { OnOk result (vec_len self.new.groups ≤ 32) }
         ensures refused { IfErr result (λ e. e ≢ HotError.Memory → (behind : ℕ → List ℕ → Option HotError) →
             fault_at (reading_view read) at (room_in self.old) (unclosed_in self.old) behind ≡ Some e) }
@@ -70,13 +74,16 @@ impl Draft {
     /// Begins a group at a line.
     fn begin_group(&mut self, alloc: Global, label: Text, at: usize) -> Result<(), HotError>
         requires { vec_len self.old.groups ≤ 32 }
-        ensures said { OnOk result ((others : Option (List ParsedLine)) → with_said (said_so_far self.new) others
+        ensures said { OnOk result ((others : Option (List ParsedLine))
+            → with_said (said_so_far self.new) others
             ≡ with_said (said_so_far self.old) (said_before (Parsed (GroupLine label)) others)) }
         ensures goes_on { OnOk result ((behind : ℕ → List ℕ → Option HotError) →
-            fault_at (Parsed (GroupLine label)) at (room_in self.old) (unclosed_in self.old) behind ≡ behind (room_in self.new) (unclosed_in self.new)) }
+            fault_at (Parsed (GroupLine label)) at (room_in self.old) (unclosed_in self.old) behind
+            ≡ behind (room_in self.new) (unclosed_in self.new)) }
         ensures limited { OnOk result (vec_len self.new.groups ≤ 32) }
         ensures refused { IfErr result (λ e. e ≢ HotError.Memory → (behind : ℕ → List ℕ → Option HotError) →
-            fault_at (Parsed (GroupLine label)) at (room_in self.old) (unclosed_in self.old) behind ≡ Some e) }
+            fault_at (Parsed (GroupLine label)) at (room_in self.old) (unclosed_in self.old) behind
+            ≡ Some e) }
     {
         if self.groups.len() >= NESTING {
             return Err(HotError::TooDeep(at));
@@ -94,10 +101,12 @@ impl Draft {
     /// Ends the innermost group.
     fn end_group(&mut self, at: usize) -> Result<(), HotError>
         requires { vec_len self.old.groups ≤ 32 }
-        ensures said { OnOk result ((others : Option (List ParsedLine)) → with_said (said_so_far self.new) others
+        ensures said { OnOk result ((others : Option (List ParsedLine))
+            → with_said (said_so_far self.new) others
             ≡ with_said (said_so_far self.old) (said_before (Parsed EndLine) others)) }
         ensures goes_on { OnOk result ((behind : ℕ → List ℕ → Option HotError) →
-            fault_at (Parsed EndLine) at (room_in self.old) (unclosed_in self.old) behind ≡ behind (room_in self.new) (unclosed_in self.new)) }
+            fault_at (Parsed EndLine) at (room_in self.old) (unclosed_in self.old) behind
+            ≡ behind (room_in self.new) (unclosed_in self.new)) }
         ensures limited { OnOk result (vec_len self.new.groups ≤ 32) }
         ensures refused { IfErr result (λ e. e ≢ HotError.Memory → (behind : ℕ → List ℕ → Option HotError) →
             fault_at (Parsed EndLine) at (room_in self.old) (unclosed_in self.old) behind ≡ Some e) }

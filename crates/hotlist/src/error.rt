@@ -2,8 +2,8 @@
 use mc_text::NoMemory;
 use thiserror::Error;
 
-/// Why a file is no hotlist. `NotText` has the position of the first byte that is no UTF-8, the others a line, counted
-/// from 1; `UnclosedGroup` that of the outermost group that is open at the file's end.
+/// Why a file is no hotlist. `NotText` has the position of the first byte that is no UTF-8, the others a
+/// line, counted from 1; `UnclosedGroup` that of the outermost group that is open at the file's end.
 #[derive(Clone, Copy, Debug, Drop, Error, PartialEq, Eq)]
 pub enum HotError {
     #[error("no text at byte {0}")]
@@ -29,8 +29,8 @@ impl From<NoMemory> for HotError {
     }
 }
 
-/// Why an item isn't added: no group stands at the place, groups would nest to more than 32, or want of memory. The list
-/// is as it was, and the item is dropped.
+/// Why an item isn't added: no group stands at the place, groups would nest to more than 32, or want of
+/// memory. The list is as it was, and the item is dropped.
 #[derive(Clone, Copy, Debug, Drop, Error, PartialEq, Eq)]
 pub enum HotEditError {
     #[error("no group there")]

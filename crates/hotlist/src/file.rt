@@ -13,11 +13,12 @@ use std::alloc::Global;
 use std::str;
 use text_scan::first_line;
 
-/// Reads a hotlist's file. The first fault decides: first bytes that are no UTF-8, then the first line that is wrong, and
-/// at last the outermost group that has no end.
+/// Reads a hotlist's file. The first fault decides: first bytes that are no UTF-8, then the first line that
+/// is wrong, and at last the outermost group that has no end.
 pub fn parse_hotlist(alloc: Global, bytes: &[u8]) -> Result<Hotlist, HotError>
     ensures read { IfOk result (λ list. IsHotlist bytes.now (list_in list)) }
-    ensures only { (list : HotList) → IsHotlist bytes.now list → MatchResult result (λ read. list_in read ≡ list) (λ e. e ≡ HotError.Memory) }
+    ensures only { (list : HotList) → IsHotlist bytes.now list
+        → MatchResult result (λ read. list_in read ≡ list) (λ e. e ≡ HotError.Memory) }
     ensures refused { IfErr result (λ e. e ≢ HotError.Memory → hotlist_fault bytes.now ≡ Some e) }
 {
     parse_bytes(alloc, bytes)
@@ -38,7 +39,8 @@ fn parse_bytes(alloc: Global, bytes: &[u8]) -> Result<Hotlist, HotError>
 fn parse_text(alloc: Global, text: &str) -> Result<Hotlist, HotError>
     ensures said { IfOk result (λ list. said_by (lines_of text.now) ≡ Some (lines_that_say (list_in list))) }
     ensures nested { IfOk result (λ list. is_within 32 (list_in list) ≡ true) }
-    ensures refused { IfErr result (λ e. e ≢ HotError.Memory → fault_from 1 (lines_of text.now) 32 [] ≡ Some e) }
+    ensures refused { IfErr result
+        (λ e. e ≢ HotError.Memory → fault_from 1 (lines_of text.now) 32 [] ≡ Some e) }
 {
     let mut draft = Draft::new(alloc);
     let mut rest = text;

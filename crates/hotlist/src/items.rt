@@ -51,7 +51,8 @@ impl HotItem {
 
     /// A group of items.
     pub fn group(label: Text, items: Vec<HotItem>) -> HotItem
-        ensures { lines_that_say (before result NoMore) ≡ GroupLine label ∷ (lines_that_say (list_of items.items) ++ EndLine ∷ []) }
+        ensures { lines_that_say (before result NoMore) ≡ GroupLine label
+            ∷ (lines_that_say (list_of items.items) ++ EndLine ∷ []) }
     {
         HotItem::Group { label, items }
     }
@@ -59,7 +60,8 @@ impl HotItem {
 
 /// Puts an item at the end.
 pub fn push_item(items: &mut Vec<HotItem>, item: HotItem) -> Result<(), NoMemory>
-    ensures { OnOk result (lines_that_say (list_of items.new.items) ≡ lines_that_say (list_of items.old.items) ++ lines_that_say (before item NoMore)) }
+    ensures { OnOk result (lines_that_say (list_of items.new.items) ≡ lines_that_say (list_of items.old.items)
+        ++ lines_that_say (before item NoMore)) }
 {
     items.push(item)?;
     Ok(())

@@ -1,7 +1,11 @@
 //! One line of a hotlist's file.
-ghost use Rattle.std.specs.Prelude.{◌≡◌, ◌≢◌, ◌<◌, ◌≤◌, ◌∷◌, ◌++◌, ℕ, List, length, encode_utf8, IfOk, IfSome, MatchOption, None, false, option_map};
-ghost use Rattle.hotlist.specs.HotLines.{behind_word, without_blanks, behind_blanks, up_to_quote, quoted_text, spaced_text, entry_line, group_line, parsed_or_bad, reading_of, reading_of_words};
-ghost use Rattle.hotlist.specs.LineViews.{parsed_line, reading_view, read_view, with_bytes, path_behind, reading_of_text};
+ghost use Rattle.std.specs.Prelude.{◌≡◌, ◌≢◌, ◌<◌, ◌≤◌, ◌∷◌, ◌++◌, ℕ, List, length, encode_utf8};
+ghost use Rattle.std.specs.Prelude.{IfOk, IfSome, MatchOption, None, false, option_map};
+ghost use Rattle.hotlist.specs.HotLines.{behind_word, without_blanks, behind_blanks, up_to_quote};
+ghost use Rattle.hotlist.specs.HotLines.{quoted_text, spaced_text, entry_line, group_line};
+ghost use Rattle.hotlist.specs.HotLines.{parsed_or_bad, reading_of, reading_of_words};
+ghost use Rattle.hotlist.specs.LineViews.{parsed_line, reading_view, read_view};
+ghost use Rattle.hotlist.specs.LineViews.{with_bytes, path_behind, reading_of_text};
 
 use mc_text::{NoMemory, Text};
 use std::alloc::Global;
@@ -50,7 +54,8 @@ fn unindented(line: &str) -> &str
 
 /// The text behind a blank or tab with which it begins.
 fn behind_indent(text: &str) -> Option<&str>
-    ensures indent { MatchOption result (reading_of text.now ≡ reading_of_words text.now) (λ rest. reading_of text.now ≡ reading_of rest.now) }
+    ensures indent { MatchOption result (reading_of text.now ≡ reading_of_words text.now) (λ rest.
+        reading_of text.now ≡ reading_of rest.now) }
     ensures shorter { IfSome result (λ rest. length rest.now < length text.now) }
 {
     if let Some(rest) = behind_mark(text, ' ') {
@@ -65,7 +70,8 @@ fn behind_indent(text: &str) -> Option<&str>
 /// The text behind a mark with which it begins. The mark is ASCII.
 fn behind_mark(text: &str, mark: char) -> Option<&str>
     requires { mark < 128 }
-    ensures found { MatchOption result ((rest : List ℕ) → text.now ≢ mark ∷ rest) (λ rest. text.now ≡ mark ∷ rest.now) }
+    ensures found { MatchOption result ((rest : List ℕ) → text.now ≢ mark ∷ rest)
+        (λ rest. text.now ≡ mark ∷ rest.now) }
 {
     text.strip_prefix(mark)
 }
@@ -209,11 +215,13 @@ fn up_to_quote(alloc: Global, text: &str) -> Result<Option<(Text, &str)>, NoMemo
     Ok(None)
 }
 
-/// What the character at the front of a quoted text means with the text behind it, which a backslash reads on from.
+/// What the character at the front of a quoted text means with the text behind it, which a
+/// backslash reads on from.
 fn plain_character(character: char, behind: &str) -> Option<(char, &str)>
     requires { character ≢ 34 }
     ensures read { MatchOption result (up_to_quote false (encode_utf8 character ++ behind.now) ≡ None)
-        (λ (plain, more). up_to_quote false (encode_utf8 character ++ behind.now) ≡ with_bytes (encode_utf8 plain) (up_to_quote false more.now)) }
+        (λ (plain, more). up_to_quote false (encode_utf8 character ++ behind.now)
+        ≡ with_bytes (encode_utf8 plain) (up_to_quote false more.now)) }
     ensures shorter { IfSome result (λ (plain, more). length more.now ≤ length behind.now) }
 {
     if character != '\\' {

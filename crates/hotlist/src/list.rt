@@ -1,5 +1,6 @@
 //! A hotlist.
-ghost use Rattle.std.specs.Prelude.{◌≡◌, ◌≢◌, ◌-◌, true, Some, None, length, OnOk, OnErr, IfErr, IfNone, IfSome, MatchOption};
+ghost use Rattle.std.specs.Prelude.{◌≡◌, ◌≢◌, ◌-◌, true, Some, None, length, OnOk};
+ghost use Rattle.std.specs.Prelude.{OnErr, IfErr, IfNone, IfSome, MatchOption};
 ghost use Rattle.hotlist.specs.HotLists.{NoMore, before, list_of, is_within};
 
 use crate::edit::{add_in, remove_in};
@@ -30,10 +31,12 @@ impl Hotlist {
         }
     }
 
-    /// Puts an item at the end of the group at a place; the empty place is that of the list itself. `NoSuchGroup` where no
-    /// group stands there, else `TooDeep` where groups would nest to more than 32 levels.
+    /// Puts an item at the end of the group at a place; the empty place is that of the list
+    /// itself. `NoSuchGroup` where no group stands there, else `TooDeep` where groups would
+    /// nest to more than 32 levels.
     pub fn add(&mut self, group: &[usize], item: HotItem) -> Result<(), HotEditError>
-        ensures added { OnOk result (list_with_item group.now (before item NoMore) (list_in self.old) ≡ Some (list_in self.new)) }
+        ensures added { OnOk result
+            (list_with_item group.now (before item NoMore) (list_in self.old) ≡ Some (list_in self.new)) }
         ensures fits { OnOk result (is_within (32 - length group.now) (before item NoMore) ≡ true) }
         ensures same { OnErr result (list_in self.new ≡ list_in self.old) }
         ensures refused { IfErr result (λ e.
@@ -48,7 +51,8 @@ impl Hotlist {
         ensures removed { MatchOption result (list_without_item place.now (list_in self.old) ≡ None)
             (λ _. list_without_item place.now (list_in self.old) ≡ Some (list_in self.new)) }
         ensures same { IfNone result (list_in self.new ≡ list_in self.old) }
-        ensures item { IfSome result (λ item. item_at place.now (list_in self.old) ≡ Some (before item NoMore)) }
+        ensures item { IfSome result
+            (λ item. item_at place.now (list_in self.old) ≡ Some (before item NoMore)) }
     {
         remove_in(&mut self.items, place)
     }

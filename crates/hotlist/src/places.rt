@@ -8,8 +8,8 @@ use crate::items::HotItem;
 use crate::list::Hotlist;
 
 impl Hotlist {
-    /// The item at a place: a position in the list, then one in the group there, and so on. The empty place is that of no
-    /// item.
+    /// The item at a place: a position in the list, then one in the group there, and so on. The empty
+    /// place is that of no item.
     pub fn at(&self, place: &[usize]) -> Option<&HotItem>
         ensures { option_map (λ item. before item.now NoMore) result ≡ item_at place.now (list_in self.now) }
     {

@@ -1,10 +1,12 @@
 //! The file of a hotlist, printed.
-ghost use Rattle.std.specs.Prelude.{◌≡◌, ◌+◌, ◌-◌, ◌≤◌, ◌∷◌, ◌++◌, [], true, OnOk, IfOk, string_bytes, encode_utf8};
+ghost use Rattle.std.specs.Prelude.{◌≡◌, ◌+◌, ◌-◌, ◌≤◌, ◌∷◌, ◌++◌, [], true};
+ghost use Rattle.std.specs.Prelude.{OnOk, IfOk, string_bytes, encode_utf8};
 ghost use Rattle.std.specs.List.{flat_map};
 ghost use Rattle.hotlist.specs.HotLists.{NoMore, AreOneLine, before, list_of, is_within};
 ghost use Rattle.hotlist.specs.HotFiles.{IsHotlist};
 ghost use Rattle.hotlist.specs.ListViews.{list_in};
-ghost use Rattle.hotlist.specs.Printed.{escaped_byte, in_quotes, indent, entry_words, group_words, end_words, line_of, printed_list};
+ghost use Rattle.hotlist.specs.Printed.{escaped_byte, in_quotes, indent, entry_words};
+ghost use Rattle.hotlist.specs.Printed.{group_words, end_words, line_of, printed_list};
 
 use crate::items::HotItem;
 use crate::list::Hotlist;
@@ -16,7 +18,8 @@ use text_scan::first_char;
 /// Prints a hotlist. Where no label and no path holds a newline, the file is read back as the list.
 pub fn print_hotlist(alloc: Global, list: &Hotlist) -> Result<Bytes, NoMemory>
     ensures printed { IfOk result (λ bytes. bytes ≡ printed_list 0 (list_in list.now)) }
-    ensures read_back { IfOk result (λ bytes. AreOneLine (list_in list.now) → IsHotlist bytes (list_in list.now)) }
+    ensures read_back { IfOk result
+        (λ bytes. AreOneLine (list_in list.now) → IsHotlist bytes (list_in list.now)) }
 {
     let mut text = String::new(alloc);
     print_items(&mut text, list.items.as_slice(), 0)?;
@@ -28,7 +31,8 @@ pub fn print_hotlist(alloc: Global, list: &Hotlist) -> Result<Bytes, NoMemory>
 fn print_items(text: &mut String, items: &[HotItem], depth: usize) -> Result<(), NoMemory>
     requires depth { depth ≤ 32 }
     requires nested { is_within (32 - depth) (list_of items.now) ≡ true }
-    ensures { OnOk result (string_bytes text.new ≡ string_bytes text.old ++ printed_list depth (list_of items.now)) }
+    ensures { OnOk result
+        (string_bytes text.new ≡ string_bytes text.old ++ printed_list depth (list_of items.now)) }
 {
     for item in items {
         print_item(text, item, depth)?;
@@ -41,7 +45,8 @@ fn print_items(text: &mut String, items: &[HotItem], depth: usize) -> Result<(),
 fn print_item(text: &mut String, item: &HotItem, depth: usize) -> Result<(), NoMemory>
     requires depth { depth ≤ 32 }
     requires nested { is_within (32 - depth) (before item.now NoMore) ≡ true }
-    ensures { OnOk result (string_bytes text.new ≡ string_bytes text.old ++ printed_list depth (before item.now NoMore)) }
+    ensures { OnOk result
+        (string_bytes text.new ≡ string_bytes text.old ++ printed_list depth (before item.now NoMore)) }
 {
     match item {
         HotItem::Entry { label, path } => print_entry(text, depth, label, path),
@@ -55,7 +60,8 @@ fn print_item(text: &mut String, item: &HotItem, depth: usize) -> Result<(), NoM
 
 /// Prints the line of an entry.
 fn print_entry(text: &mut String, depth: usize, label: &Text, path: &Text) -> Result<(), NoMemory>
-    ensures { OnOk result (string_bytes text.new ≡ string_bytes text.old ++ line_of depth (entry_words label.now path.now)) }
+    ensures { OnOk result
+        (string_bytes text.new ≡ string_bytes text.old ++ line_of depth (entry_words label.now path.now)) }
 {
     push_indent(text, depth)?;
     text.push_str("ENTRY \"")?;
@@ -68,7 +74,8 @@ fn print_entry(text: &mut String, depth: usize, label: &Text, path: &Text) -> Re
 
 /// Prints the line at which a group begins.
 fn print_group_line(text: &mut String, depth: usize, label: &Text) -> Result<(), NoMemory>
-    ensures { OnOk result (string_bytes text.new ≡ string_bytes text.old ++ line_of depth (group_words label.now)) }
+    ensures { OnOk result
+        (string_bytes text.new ≡ string_bytes text.old ++ line_of depth (group_words label.now)) }
 {
     push_indent(text, depth)?;
     text.push_str("GROUP \"")?;
@@ -110,7 +117,8 @@ fn push_escaped(text: &mut String, plain: &str) -> Result<(), NoMemory>
 
 /// Puts a character at the end, behind a backslash where it is a quote or a backslash.
 fn push_character(text: &mut String, character: char) -> Result<(), NoMemory>
-    ensures { OnOk result (string_bytes text.new ≡ string_bytes text.old ++ flat_map escaped_byte (encode_utf8 character)) }
+    ensures { OnOk result
+        (string_bytes text.new ≡ string_bytes text.old ++ flat_map escaped_byte (encode_utf8 character)) }
 {
     match character {
         '"' => text.push_str("\\\"")?,

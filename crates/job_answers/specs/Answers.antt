@@ -5,7 +5,8 @@ use Rattle.job_reports.specs.declared.answer.AnswerError.TheVariants.{NotAsked, 
 use Rattle.job_reports.specs.declared.report.Cause.{Cause}
 use Rattle.job_reports.specs.declared.report.Trouble.{Trouble}
 use Rattle.job_reports.specs.declared.answer.Answer.{Answer}
-use Rattle.job_reports.specs.declared.answer.Answer.TheVariants.{Yes, No, All, Update, Nothing, SizeDiffers, Retry, Skip, SkipAll, Abort}
+use Rattle.job_reports.specs.declared.answer.Answer.TheVariants.{Yes, No, All, Update, Nothing}
+use Rattle.job_reports.specs.declared.answer.Answer.TheVariants.{SizeDiffers, Retry, Skip, SkipAll, Abort}
 use Rattle.job_answers.specs.declared.answer.Waiting.{Waiting}
 use Rattle.job_answers.specs.declared.answer.Waiting.TheVariants as waits
 use Rattle.job_answers.specs.declared.answer.Then.{Then}

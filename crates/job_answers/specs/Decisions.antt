@@ -2,7 +2,8 @@
 use Rattle.std.specs.Prelude.{◌≡◌, ◌==◌, if◌then◌else◌, Option, Some, None}
 use Rattle.std.specs.Int.Signed.{lt_z}
 use Rattle.job_reports.specs.declared.answer.Answer.{Answer}
-use Rattle.job_reports.specs.declared.answer.Answer.TheVariants.{Yes, No, All, Update, Nothing, SizeDiffers, Retry, Skip, SkipAll, Abort}
+use Rattle.job_reports.specs.declared.answer.Answer.TheVariants.{Yes, No, All, Update, Nothing}
+use Rattle.job_reports.specs.declared.answer.Answer.TheVariants.{SizeDiffers, Retry, Skip, SkipAll, Abort}
 use Rattle.job_reports.specs.declared.question.Question.{Question}
 use Rattle.job_reports.specs.declared.report.Cause.{Cause}
 use Rattle.job_answers.specs.declared.replies.ItemAnswer.{ItemAnswer}
@@ -23,7 +24,8 @@ abbrev pub rule_decides : Rule → Question → Decision
 rule_decides rule.All question = Replace
 rule_decides rule.Update question = if lt_z question.target_time question.source_time then Replace else Keep
 rule_decides rule.Nothing question = Keep
-rule_decides rule.SizeDiffers question = if question.source_size == question.target_size then Keep else Replace
+rule_decides rule.SizeDiffers question =
+    if question.source_size == question.target_size then Keep else Replace
 
 -- what is decided by an answer for this item, or by one for all; where neither stands, it is asked
 abbrev pub decided_by : Option ItemAnswer → Option Rule → Question → Decision

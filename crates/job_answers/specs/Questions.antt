@@ -5,7 +5,8 @@ use Rattle.mc_text.specs.declared.kind.Kind.TheVariants.{File, Folder, Link, Oth
 use Rattle.job_answers.specs.declared.placing.Origin.{Origin}
 use Rattle.job_answers.specs.declared.placing.Origin.TheVariants.{Copied, Moved, Saved}
 use Rattle.job_answers.specs.declared.placing.Placing.{Placing}
-use Rattle.job_answers.specs.declared.placing.Placing.TheVariants.{Free, Merges, Asks, Replaces, TargetKind, SpecialSource}
+use Rattle.job_answers.specs.declared.placing.Placing.TheVariants.{Free, Merges, Asks, Replaces}
+use Rattle.job_answers.specs.declared.placing.Placing.TheVariants.{TargetKind, SpecialSource}
 
 -- a thing that is no folder comes to a target where a file or a link stands
 abbrev pub onto_a_file : Origin → Placing
@@ -26,8 +27,8 @@ abbrev pub folder_onto : Kind → Placing
 folder_onto Folder = Merges
 folder_onto kind = TargetKind kind
 
--- What comes of a thing at its target. Exactly one of the two is a folder, or the target is special: a trouble, which goes
--- before that of a special source. Else it is asked, but for a save.
+-- What comes of a thing at its target. Exactly one of the two is a folder, or the target is special: a
+-- trouble, which goes before that of a special source. Else it is asked, but for a save.
 abbrev pub placing_at : Origin → Option Kind → Placing
 placing_at (Copied Folder) (Some kind) = folder_onto kind
 placing_at (Moved Folder) (Some kind) = folder_onto kind

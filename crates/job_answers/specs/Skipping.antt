@@ -1,5 +1,5 @@
--- The kinds of troubles that are skipped: `Skip all` holds for each later trouble of the same kind, of a refusal of the tree for
--- the same refusal.
+-- The kinds of troubles that are skipped: `Skip all` holds for each later trouble of the same kind, of a
+-- refusal of the tree for the same refusal.
 use Rattle.std.specs.Prelude.{◌≡◌, ◌&&◌, not, Bool, true, false, if◌then◌else◌, Option, Some, None}
 use Rattle.tree_trait.specs.declared.calls.TreeError.{TreeError}
 use Rattle.tree_trait.specs.declared.calls.TreeError.TheVariants as refused
@@ -9,7 +9,9 @@ use Rattle.job_reports.specs.declared.report.Did.{Did}
 use Rattle.job_reports.specs.declared.report.Did.TheVariants.{Troubled}
 use Rattle.job_reports.specs.declared.report.Trouble.{Trouble}
 use Rattle.job_answers.specs.declared.skips.CauseKind.{CauseKind}
-use Rattle.job_answers.specs.declared.skips.CauseKind.TheVariants.{Tree, TargetKind, SpecialSource, TooDeep, PartTaken, TooLong, Unnamed, Changed, Memory}
+use Rattle.job_answers.specs.declared.skips.CauseKind.TheVariants.{Tree, TargetKind, SpecialSource}
+use Rattle.job_answers.specs.declared.skips.CauseKind.TheVariants.{TooDeep, PartTaken, TooLong}
+use Rattle.job_answers.specs.declared.skips.CauseKind.TheVariants.{Unnamed, Changed, Memory}
 use Rattle.job_answers.specs.declared.skips.SkippedRefusals.{SkippedRefusals}
 use Rattle.job_answers.specs.declared.skips.Skips.{Skips}
 

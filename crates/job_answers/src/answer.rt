@@ -36,7 +36,8 @@ pub fn waiting_in(trouble: &Trouble) -> Waiting
     Waiting::Trouble(trouble.cause)
 }
 
-/// What a job does after this answer. `NotAsked` where it doesn't wait, `WrongAnswer` where the answer is none to that.
+/// What a job does after this answer. `NotAsked` where it doesn't wait, `WrongAnswer` where
+/// the answer is none to that.
 pub fn then_after(waiting: Option<Waiting>, answer: Answer) -> Result<Then, AnswerError>
     ensures { result ≡ answer_result waiting answer }
 {

@@ -1,4 +1,5 @@
-//! Questions before a thing is replaced, what may be answered to them and to troubles, and what answers for all later items decide.
+//! Questions before a thing is replaced, what may be answered to them and to troubles, and what answers
+//! for all later items decide.
 #![tactic(auto)]
 
 mod answer;

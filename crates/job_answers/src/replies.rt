@@ -1,4 +1,5 @@
-//! What was answered to a job: to its questions, for the item that is at hand and for all later items, and to its troubles.
+//! What was answered to a job: to its questions, for the item that is at hand and for all later
+//! items, and to its troubles.
 ghost use Rattle.std.specs.Prelude.{◌≡◌, Some, None, if◌then◌else◌};
 ghost use Rattle.job_answers.specs.Decisions.{decision_on, no_replies, rule_decides, with_reply, with_skips};
 
@@ -63,7 +64,8 @@ impl Replies {
         }
     }
 
-    /// Keeps what is answered to a question; an answer that is none to a question changes nothing. It takes no memory.
+    /// Keeps what is answered to a question; an answer that is none to a question changes
+    /// nothing. It takes no memory.
     pub fn note(&mut self, answer: Answer)
         ensures { self.new ≡ with_reply answer self.old }
     {

@@ -1,12 +1,13 @@
 //! The kinds of troubles that are skipped without a question.
 ghost use Rattle.std.specs.Prelude.{◌≡◌, None, Some, if◌then◌else◌, true};
-ghost use Rattle.job_answers.specs.Skipping.{holds, holds_refusal, is_passed_over, kind_in, no_refusals, no_skips, passed_cause as cause_passed, with_kind, with_refusal};
+ghost use Rattle.job_answers.specs.Skipping.{holds, holds_refusal, is_passed_over, kind_in, no_refusals};
+ghost use Rattle.job_answers.specs.Skipping.{no_skips, passed_cause as cause_passed, with_kind, with_refusal};
 
 use job_reports::{Cause, Did, Trouble};
 use tree_trait::TreeError;
 
-/// The kind of a cause: which it is, without what it tells of the case. Two refusals of the tree are of one kind where they
-/// are the same refusal.
+/// The kind of a cause: which it is, without what it tells of the case. Two refusals of the tree are of one
+/// kind where they are the same refusal.
 #[derive(Clone, Copy, Debug, Drop, PartialEq, Eq)]
 pub enum CauseKind {
     Tree(TreeError),

@@ -1,11 +1,13 @@
 -- What a job claims, and which claims clash.
-use Rattle.std.specs.Prelude.{ℕ, Bool, true, false, ◌&&◌, ◌||◌, List, [], ◌∷◌, map, Option, option_map, option_and_then, slice_get}
+use Rattle.std.specs.Prelude.{ℕ, Bool, true, false, ◌&&◌, ◌||◌, List, [], ◌∷◌}
+use Rattle.std.specs.Prelude.{map, Option, option_map, option_and_then, slice_get}
 use Rattle.std.specs.List.{list_any, position, flat_map}
 use Rattle.mc_text.specs.Routes.{Route}
 use Rattle.job_reports.specs.declared.job.Pair.{Pair}
 use Rattle.job_claims.specs.declared.claim.Claim.{Claim}
 use Rattle.op_plan.specs.declared.job.Job.{Job}
-use Rattle.op_plan.specs.declared.job.Job.TheVariants.{Copy, Move, Delete, MakeFolder, SetMode, MakeLink, Save}
+use Rattle.op_plan.specs.declared.job.Job.TheVariants.{Copy, Move, Delete, MakeFolder}
+use Rattle.op_plan.specs.declared.job.Job.TheVariants.{SetMode, MakeLink, Save}
 use Rattle.op_plan.specs.Meeting.{meet}
 
 abbrev pub claim : Bool → Route → Claim
@@ -38,5 +40,6 @@ clashes mine theirs = list_any (λ claim. list_any (clash claim) theirs) mine
 -- the first of mine that clashes with any of theirs, and the first of theirs with which it does
 abbrev pub first_clash : List Claim → List Claim → Option (ℕ × ℕ)
 first_clash mine theirs =
-    option_and_then (λ i. option_and_then (λ claim. option_map (λ j. (i, j)) (position (clash claim) theirs)) (slice_get mine i))
+    option_and_then (λ i.
+    option_and_then (λ claim. option_map (λ j. (i, j)) (position (clash claim) theirs)) (slice_get mine i))
     (position (λ claim. list_any (clash claim) theirs) mine)

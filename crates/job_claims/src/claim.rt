@@ -15,8 +15,8 @@ pub struct Claim {
 }
 
 impl Claim {
-    /// Whether this claim and another can't stand side by side: one of the paths is or holds the other, and at least one
-    /// of the claims is for writing.
+    /// Whether this claim and another can't stand side by side: one of the paths is or holds the other, and
+    /// at least one of the claims is for writing.
     pub fn clashes_with(&self, other: &Claim) -> bool
         ensures { result ≡ clash self.now other.now }
     {

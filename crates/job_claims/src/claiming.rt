@@ -68,8 +68,9 @@ fn one_written(alloc: Global, path: &Path) -> Result<Claims, NoMemory>
     Ok(Claims(claimed))
 }
 
-/// The first pair of positions at which two claims clash: the first of mine that clashes with any of theirs, and the
-/// first of those. It takes no memory, and a time that grows as the product of their numbers.
+/// The first pair of positions at which two claims clash: the first of mine that clashes with
+/// any of theirs, and the first of those. It takes no memory, and a time that grows as the
+/// product of their numbers.
 pub fn clash(mine: &Claims, theirs: &Claims) -> Option<(usize, usize)>
     ensures first { result ≡ first_clash mine.now theirs.now }
     ensures found { is_some result ≡ clashes mine.now theirs.now }

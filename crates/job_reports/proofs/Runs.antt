@@ -231,3 +231,6 @@ pub comes_stopped : (x y : Call) (b : Bool) (before after : Option CallLog) (f0 
     → RanFolded (x ∷ []) b (Err stop) before after f0 f1 → RanFolded (x ∷ y ∷ []) b (Err stop) before after f0 f1
 unfolding RanFolded
 comes_stopped x y b before after f0 f1 stop one = ran_stopped (x ∷ []) (y ∷ []) b before after f0 f1 stop one
+
+-- what two calls come to, of what each comes to
+pub ruleset two_calls = (comes_then, comes_stopped, comes_few)

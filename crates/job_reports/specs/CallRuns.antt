@@ -1,17 +1,21 @@
 -- Several changing calls in a row, and their answers.
 use Rattle.std.specs.Prelude.{◌≡◌, ◌⊎◌, ℕ, ◌+◌, ◌<◌, List, [], ◌∷◌, length, take, Option, Some, None, Ok, Err}
 use Rattle.mc_text.specs.Routes.{Route}
-use Rattle.tree_trait.specs.Calls.{Call, Stat, ListFolder, ReadAt, ReadLink, MakeFile, WriteAt, SetMode, MakeFolder, MakeLink, Rename, RemoveFile, RemoveFolder, SyncFile, SyncFolder}
+use Rattle.tree_trait.specs.Calls.{Call, Stat, ListFolder, ReadAt, ReadLink, MakeFile}
+use Rattle.tree_trait.specs.Calls.{WriteAt, SetMode, MakeFolder, MakeLink, Rename}
+use Rattle.tree_trait.specs.Calls.{RemoveFile, RemoveFolder, SyncFile, SyncFolder}
 use Rattle.tree_trait.specs.Change.{CallLog}
 use Rattle.tree_trait.specs.Answers.{Performs}
 use Rattle.tree_trait.specs.declared.calls.TreeError.{TreeError}
 use Rattle.job_reports.specs.declared.report.Cause.{Cause}
-use Rattle.job_reports.specs.declared.report.Cause.TheVariants.{Tree, TargetKind, SpecialSource, TooDeep, PartTaken, TooLong, Unnamed, Changed, Memory}
+use Rattle.job_reports.specs.declared.report.Cause.TheVariants.{Tree, TargetKind, SpecialSource, TooDeep}
+use Rattle.job_reports.specs.declared.report.Cause.TheVariants.{PartTaken, TooLong, Unnamed, Changed, Memory}
 
 -- all were done, one after the other
 abbrev pub AllDone : CallLog → List Call → Option CallLog → Type 0
 AllDone log [] after = after ≡ Some log
-AllDone log (call ∷ more) after = (mid : CallLog) × Performs {A = Unit {0}} log call (Ok tt) (Some mid) × AllDone mid more after
+AllDone log (call ∷ more) after =
+    (mid : CallLog) × Performs {A = Unit {0}} log call (Ok tt) (Some mid) × AllDone mid more after
 
 -- one was refused with this error, and those before it were done
 abbrev pub StopsAt : CallLog → List Call → Call → TreeError → Option CallLog → Type 0
@@ -37,10 +41,13 @@ path_of (RemoveFolder path) = path
 path_of (SyncFile path) = path
 path_of (SyncFolder path) = path
 
--- The trouble of calls in a row: one is refused, or there is no memory for one, and those before it were done.
+-- The trouble of calls in a row: one is refused, or there is no memory for one, and
+-- those before it were done.
 abbrev pub RunStops : List Call → Cause → Option Route → CallLog → Option CallLog → Type 0
-RunStops calls (Tree e) path log after = (call : Call) × (path ≡ Some (path_of call)) × StopsAt log calls call e after
-RunStops calls Memory path log after = (path ≡ None) × ((count : ℕ) × (count < length calls) × AllDone log (take count calls) after)
+RunStops calls (Tree e) path log after =
+    (call : Call) × (path ≡ Some (path_of call)) × StopsAt log calls call e after
+RunStops calls Memory path log after =
+    (path ≡ None) × ((count : ℕ) × (count < length calls) × AllDone log (take count calls) after)
 RunStops calls (TargetKind kind) path log after = ⊥
 RunStops calls SpecialSource path log after = ⊥
 RunStops calls TooDeep path log after = ⊥

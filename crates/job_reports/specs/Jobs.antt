@@ -1,17 +1,20 @@
 -- Which jobs can be worked, and what they work on.
-use Rattle.std.specs.Prelude.{ℕ, Bool, false, not, ◌&&◌, ◌==◌, nat_le, is_some, if◌then◌else◌, List, [], ◌∷◌, length, Option, Some, None}
+use Rattle.std.specs.Prelude.{ℕ, Bool, false, not, ◌&&◌, ◌==◌, nat_le, is_some}
+use Rattle.std.specs.Prelude.{if◌then◌else◌, List, [], ◌∷◌, length, Option, Some, None}
 use Rattle.std.specs.List.{list_any}
 use Rattle.mc_text.specs.Routes.{Route, parent_of, same_path}
 use Rattle.job_reports.specs.declared.job.Job.{Job}
-use Rattle.job_reports.specs.declared.job.Job.TheVariants.{Copy, Move, Delete, MakeFolder, MakeLink, SetMode, RemoveEmptied}
+use Rattle.job_reports.specs.declared.job.Job.TheVariants.{Copy, Move, Delete, MakeFolder}
+use Rattle.job_reports.specs.declared.job.Job.TheVariants.{MakeLink, SetMode, RemoveEmptied}
 use Rattle.job_reports.specs.Paths.{folder_of}
 
 -- a link may say this: 1 to 4,095 bytes and no NUL (`IsLinkText` as a test)
 abbrev pub is_link_text : List ℕ → Bool
-is_link_text text = (nat_le 1 (length text) && nat_le (length text) 4095) && not (list_any (λ byte. byte == 0) text)
+is_link_text text =
+    (nat_le 1 (length text) && nat_le (length text) 4095) && not (list_any (λ byte. byte == 0) text)
 
--- A job of one path or pair. Other plans aren't worked yet; and the root, which no folder holds, is neither copied, moved, deleted, made nor
--- given a mode. Nothing is moved to where it is. A mode has twelve bits.
+-- A job of one path or pair. Other plans aren't worked yet; and the root, which no folder holds, is neither
+-- copied, moved, deleted, made nor given a mode. Nothing is moved to where it is. A mode has twelve bits.
 abbrev pub is_workable : Job → Bool
 is_workable (Delete []) = false
 is_workable (Delete (path ∷ [])) = is_some (parent_of path)
@@ -20,7 +23,8 @@ is_workable (Copy []) = false
 is_workable (Copy (pair ∷ [])) = is_some (parent_of pair.source) && is_some (parent_of pair.target)
 is_workable (Copy (pair ∷ more ∷ pairs)) = false
 is_workable (Move []) = false
-is_workable (Move (pair ∷ [])) = (is_some (parent_of pair.source) && is_some (parent_of pair.target)) && not (same_path pair.source pair.target)
+is_workable (Move (pair ∷ [])) = (is_some (parent_of pair.source) && is_some (parent_of pair.target))
+    && not (same_path pair.source pair.target)
 is_workable (Move (pair ∷ more ∷ pairs)) = false
 is_workable (MakeFolder path) = is_some (parent_of path)
 is_workable (MakeLink path text) = is_some (parent_of path) && is_link_text text
@@ -29,8 +33,9 @@ is_workable (SetMode (path ∷ []) mode) = is_some (parent_of path) && nat_le mo
 is_workable (SetMode (path ∷ more ∷ paths) mode) = false
 is_workable (RemoveEmptied path) = is_some (parent_of path)
 
--- what a job works on: a thing with all that lies in it that is copied or moved to a target, or removed, a folder or a link that is made, a thing that is given a
--- mode, or a folder that is removed once it was emptied
+-- what a job works on: a thing with all that lies in it that is copied or moved to a target, or
+-- removed, a folder or a link that is made, a thing that is given a mode, or a folder that is
+-- removed once it was emptied
 pub data ItemOfJob : Type 0 where
   Copies : (source : Route) → (target : Route) → ItemOfJob
   Moves : (source : Route) → (target : Route) → ItemOfJob
@@ -66,7 +71,8 @@ item_of job = if is_workable job then only_item job else None
 abbrev pub new_folder_mode : ℕ
 new_folder_mode = 0o755
 
--- the folder in which a job changes names; of a move that of the target, and of a mode that is set, the one that holds the thing
+-- the folder in which a job changes names; of a move that of the target, and of a mode that is set, the
+-- one that holds the thing
 abbrev pub folder_changed : ItemOfJob → Route
 folder_changed (Copies source target) = folder_of target
 folder_changed (Moves source target) = folder_of target

@@ -9,7 +9,8 @@ use Rattle.tree_trait.specs.Change.{CallLog}
 use Rattle.tree_trait.specs.Refusals.{refusal_of}
 use Rattle.tree_trait.specs.Answers.{HasRisen}
 use Rattle.job_reports.specs.declared.report.Cause.{Cause}
-use Rattle.job_reports.specs.declared.report.Cause.TheVariants.{Tree, TargetKind, SpecialSource, TooDeep, PartTaken, TooLong, Unnamed, Changed, Memory}
+use Rattle.job_reports.specs.declared.report.Cause.TheVariants.{Tree, TargetKind, SpecialSource, TooDeep}
+use Rattle.job_reports.specs.declared.report.Cause.TheVariants.{PartTaken, TooLong, Unnamed, Changed, Memory}
 use Rattle.job_reports.specs.declared.report.Trouble.{Trouble}
 
 -- a reading call is refused with this error: as the tree gives it, or by a fault
@@ -34,8 +35,10 @@ StatStops s look (Changed said got) path = ⊥
 abbrev pub TargetStops : FileSystem → Route → Cause → Option Route → Type 0
 TargetStops s target cause path = StatStops s target cause path × (cause ≢ Tree refused.Missing)
 
--- Reading calls leave the tree as it was. They report a fault only where its count has risen, and never at a barrier.
-pub record Peeks {A : Type 0} (result : Result A Trouble) (before after : Option CallLog) (faults faults_after : ℕ) : Type 0 where
+-- Reading calls leave the tree as it was. They report a fault only where its count has
+-- risen, and never at a barrier.
+pub record Peeks {A : Type 0} (result : Result A Trouble) (before after : Option CallLog)
+    (faults faults_after : ℕ) : Type 0 where
   pub same : after ≡ before
   pub later : faults ≤ faults_after
   pub fault : IfErr result (λ trouble. trouble.cause ≡ Tree refused.Fault → HasRisen faults faults_after)

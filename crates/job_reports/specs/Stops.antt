@@ -1,5 +1,6 @@
 -- What changing calls come to: how many were made, or the trouble that stopped them.
-use Rattle.std.specs.Prelude.{◌≡◌, ◌⊎◌, ℕ, ◌+◌, ◌≤◌, ⊤, Bool, false, List, length, Option, Some, None, Result, Ok, Err, IfOk, IfErr}
+use Rattle.std.specs.Prelude.{◌≡◌, ◌⊎◌, ℕ, ◌+◌, ◌≤◌, ⊤, Bool, false, List, length}
+use Rattle.std.specs.Prelude.{Option, Some, None, Result, Ok, Err, IfOk, IfErr}
 use Rattle.mc_text.specs.Routes.{Route}
 use Rattle.tree_trait.specs.Calls.{Call}
 use Rattle.tree_trait.specs.Change.{CallLog}
@@ -23,7 +24,8 @@ stopped_before_of trouble = record { trouble = trouble; calls = 0 }
 -- away from a barrier a trouble with this cause names this path, or there was no memory for it
 abbrev pub IsTroubleWithPath : Cause → Route → Trouble → Type 0
 IsTroubleWithPath cause path trouble =
-    (trouble ≡ record { cause = cause; path = Some path; barrier = false }) ⊎ (trouble ≡ out_of_memory_at false)
+    (trouble ≡ record { cause = cause; path = Some path; barrier = false })
+    ⊎ (trouble ≡ out_of_memory_at false)
 
 -- the trouble of a reading call that was refused with this error at this path
 abbrev pub IsReadingTrouble : TreeError → Route → Trouble → Type 0
@@ -41,7 +43,8 @@ IsMissingOrTrouble e path (Err trouble) = IsReadingTrouble e path trouble
 abbrev pub made_or_stopped_of : Result (Unit {0}) TreeError → Route → Bool → Result ℕ Stop
 made_or_stopped_of (Ok done) path barrier = Ok 1
 made_or_stopped_of (Err refused.Memory) path barrier = Err (stopped_before_of (out_of_memory_at barrier))
-made_or_stopped_of (Err e) path barrier = Err (record { trouble = record { cause = Tree e; path = Some path; barrier = barrier }; calls = 1 })
+made_or_stopped_of (Err e) path barrier =
+    Err (record { trouble = record { cause = Tree e; path = Some path; barrier = barrier }; calls = 1 })
 
 -- how many calls were made
 abbrev pub calls_of : Result ℕ Stop → ℕ
@@ -53,11 +56,14 @@ abbrev pub after_calls_of : ℕ → Result ℕ Stop → Result ℕ Stop
 after_calls_of calls (Ok more) = Ok (calls + more)
 after_calls_of calls (Err stop) = Err (record stop { calls = calls + stop.calls })
 
--- What calls in a row come to, on a tree that may tell what it holds: all were done, or the trouble says which one was
--- not. It counts those that were made, and reports a fault only where the tree's count has risen.
-pub record Ran (calls : List Call) (at_barrier : Bool) (result : Result ℕ Stop) (before after : Option CallLog) (faults faults_after : ℕ) : Type 0 where
+-- What calls in a row come to, on a tree that may tell what it holds: all were done, or the
+-- trouble says which one was not. It counts those that were made, and reports a fault only where
+-- the tree's count has risen.
+pub record Ran (calls : List Call) (at_barrier : Bool) (result : Result ℕ Stop)
+    (before after : Option CallLog) (faults faults_after : ℕ) : Type 0 where
   pub done : IfOk result (λ _. IfKnown before (λ log. AllDone log calls after))
-  pub stopped : IfErr result (λ stop. IfKnown before (λ log. RunStops calls stop.trouble.cause stop.trouble.path log after))
+  pub stopped : IfErr result (λ stop.
+      IfKnown before (λ log. RunStops calls stop.trouble.cause stop.trouble.path log after))
   pub barrier : IfErr result (λ stop. stop.trouble.barrier ≡ at_barrier)
   pub counted : IfKnown before (λ log. IfKnown after (HasMore log (calls_of result)))
   pub few : calls_of result ≤ length calls
@@ -67,7 +73,8 @@ pub record Ran (calls : List Call) (at_barrier : Bool) (result : Result ℕ Stop
 
 -- The same, as a word that stays closed: so the prover goes by lemmas from the calls of a row to the row.
 unfoldable pub RanFolded : List Call → Bool → Result ℕ Stop → Option CallLog → Option CallLog → ℕ → ℕ → Type 0
-RanFolded calls at_barrier result before after faults faults_after = Ran calls at_barrier result before after faults faults_after
+RanFolded calls at_barrier result before after faults faults_after =
+    Ran calls at_barrier result before after faults faults_after
 
 -- the cause of a trouble where a call was refused
 abbrev pub cause_of : TreeError → Cause
@@ -85,7 +92,8 @@ trouble_at e path barrier = record { cause = cause_of e; path = named_path e pat
 
 -- a call that may be refused, or find no memory
 abbrev pub IsTried : CallLog → Call → Option CallLog → Type 0
-IsTried log call after = (answer : Result (Unit {0}) TreeError) × Performs {A = Unit {0}} log call answer after
+IsTried log call after =
+    (answer : Result (Unit {0}) TreeError) × Performs {A = Unit {0}} log call answer after
 
 -- what a sync answered: it was done, or it was refused so
 abbrev pub sync_answer : Option TreeError → Result (Unit {0}) TreeError

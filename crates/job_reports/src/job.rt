@@ -72,7 +72,7 @@ pub enum Job {
     MakeLink(Path, Text),
     /// Gives each of these this mode, of twelve bits, and nothing that lies below them.
     SetMode(Paths, u16),
-    /// Removes this folder, out of which a merge has moved what lay in it; one in which something stayed is kept. No key begins it: it
-    /// is the last of the sources that the merge leaves.
+    /// Removes this folder, out of which a merge has moved what lay in it; one in which something stayed is
+    /// kept. No key begins it: it is the last of the sources that the merge leaves.
     RemoveEmptied(Path),
 }

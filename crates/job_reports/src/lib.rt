@@ -1,4 +1,5 @@
-//! What a job is asked, what its steps may report, and what changing calls in a row come to. No machine is needed for these.
+//! What a job is asked, what its steps may report, and what changing calls in a row come to. No
+//! machine is needed for these.
 #![tactic(auto)]
 
 mod answer;

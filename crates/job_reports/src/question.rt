@@ -6,8 +6,8 @@ use mc_text::{NoMemory, Path};
 use std::alloc::Global;
 use tree_trait::Meta;
 
-/// Whether the source is to replace what stands at the target: their sizes in bytes, and the seconds of their last changes. The size
-/// of a link is the bytes of its text.
+/// Whether the source is to replace what stands at the target: their sizes in bytes, and the seconds of
+/// their last changes. The size of a link is the bytes of its text.
 #[derive(Debug, Drop)]
 pub struct Question {
     pub source: Path,
@@ -27,7 +27,8 @@ impl Question {
         target: &Path,
         target_meta: &Meta,
     ) -> Result<Question, NoMemory>
-        ensures { IfOk result (λ question. question ≡ question_on source.now source_meta.now target.now target_meta.now) }
+        ensures { IfOk result
+            (λ question. question ≡ question_on source.now source_meta.now target.now target_meta.now) }
     {
         Ok(Question {
             source: source.copy(alloc)?,

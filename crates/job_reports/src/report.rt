@@ -106,7 +106,8 @@ pub enum Did {
     Barrier,
     /// It waits for an answer: is what stands at the target to be replaced?
     Asked(Question),
-    /// Both source and target are folders, and that at the target stays: what lies in the source, by these names, comes to it next.
+    /// Both source and target are folders, and that at the target stays: what lies in the source, by these
+    /// names, comes to it next.
     Merges(Transfer, Pair, Names),
     /// The source was renamed to the target: what stood there stands here, with all that lies in it.
     Moved(Pair),
@@ -122,8 +123,8 @@ pub struct StepResult {
     pub calls: u64,
 }
 
-/// What a last step did, how many changing calls of the tree it made, and the refusal of a sync that was tried in vain:
-/// the folder then has names that no sync has brought onto the disk.
+/// What a last step did, how many changing calls of the tree it made, and the refusal of a sync that was
+/// tried in vain: the folder then has names that no sync has brought onto the disk.
 #[derive(Debug, Drop)]
 pub struct LastStepResult {
     pub did: Did,

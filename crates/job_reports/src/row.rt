@@ -28,8 +28,8 @@ pub enum JobKind {
     SetMode,
 }
 
-/// A live job, as it is seen: its number, what it is at, what it does, and the question or the trouble in which it waits. A list of the jobs
-/// shows kind and path.
+/// A live job, as it is seen: its number, what it is at, what it does, and the question or the trouble in
+/// which it waits. A list of the jobs shows kind and path.
 #[derive(Debug, Drop)]
 pub struct JobRow {
     pub job: u32,

@@ -1,6 +1,8 @@
 //! What changing calls come to: how many were made, or the trouble that stopped them.
 ghost use Rattle.std.specs.Prelude.{◌≡◌, ◌≤◌};
-ghost use Rattle.job_reports.specs.Stops.{IsMissingOrTrouble, IsReadingTrouble, IsTroubleWithPath, after_calls_of, calls_made_for, calls_of, made_or_stopped_of, out_of_memory_at, refusal_in as refused_with, stopped_before_of};
+ghost use Rattle.job_reports.specs.Stops.{IsMissingOrTrouble, IsReadingTrouble, IsTroubleWithPath};
+ghost use Rattle.job_reports.specs.Stops.{after_calls_of, calls_made_for, calls_of, made_or_stopped_of};
+ghost use Rattle.job_reports.specs.Stops.{out_of_memory_at, refusal_in as refused_with, stopped_before_of};
 
 use crate::report::{Cause, Trouble};
 use mc_text::Path;

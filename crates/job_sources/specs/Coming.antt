@@ -10,7 +10,8 @@ use Rattle.session_entries.specs.Sources.{children_in}
 use Rattle.job_sources.specs.declared.left.Left.{Left}
 use Rattle.job_sources.specs.declared.left.Left.TheVariants.{Children, Planned}
 
--- the sources in one place: a plan alone, or those that a merge of a folder leaves, by the names of what lies in it, the last one first
+-- the sources in one place: a plan alone, or those that a merge of a folder leaves, by the names of what
+-- lies in it, the last one first
 abbrev pub sources_at : Left → List Job
 sources_at (Planned source) = source ∷ []
 sources_at (Children transfer pair names) = children_in transfer pair (reverse names)

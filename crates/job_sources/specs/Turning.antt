@@ -1,5 +1,7 @@
--- How a job goes on with its sources: which is taken up next, what is written down of a step, and where the job stands then.
-use Rattle.std.specs.Prelude.{◌≡◌, ◌⊎◌, ℕ, zero, suc, ◌+◌, ◌-◌, ◌*◌, ◌^◌, ⊤, Bool, true, false, ◌&&◌, not, is_some, if◌then◌else◌, List, [], ◌∷◌, length, Option, Some, None}
+-- How a job goes on with its sources: which is taken up next, what is written down of a step, and
+-- where the job stands then.
+use Rattle.std.specs.Prelude.{◌≡◌, ◌⊎◌, ℕ, zero, suc, ◌+◌, ◌-◌, ◌*◌, ◌^◌, ⊤, Bool, true, false, ◌&&◌}
+use Rattle.std.specs.Prelude.{not, is_some, if◌then◌else◌, List, [], ◌∷◌, length, Option, Some, None}
 use Rattle.std.specs.Option.{option_map_or}
 use Rattle.mc_text.specs.Routes.{Route, parent_of, same_path}
 use Rattle.job_reports.specs.declared.job.Job.{Job}
@@ -22,7 +24,8 @@ use Rattle.copy_tree.specs.declared.item.ItemAtWork.TheVariants as item
 use Rattle.copy_tree.specs.Standing.{Seen}
 use Rattle.move_job.specs.Movings as movings
 use Rattle.copy_move.specs.declared.run.Course.{Course}
-use Rattle.copy_move.specs.declared.run.Course.TheVariants.{GoesOn as OnWay, Asking, InTrouble, OwedSyncFailed, Skips, Ends}
+use Rattle.copy_move.specs.declared.run.Course.TheVariants.{GoesOn as OnWay, Asking, InTrouble}
+use Rattle.copy_move.specs.declared.run.Course.TheVariants.{OwedSyncFailed, Skips, Ends}
 use Rattle.copy_move.specs.declared.work.Work.{Work}
 use Rattle.copy_move.specs.declared.work.Work.TheVariants as work
 use Rattle.copy_move.specs.Jobs.{Running, copies, first_work, moves, part_of, removes_emptied}
@@ -30,7 +33,8 @@ use Rattle.copy_move.specs.Ranks.{rank_with, work_rank}
 use Rattle.copy_move.specs.Told.{turned_job}
 use Rattle.job_sources.specs.declared.turning.Stepped.{Stepped}
 
--- the plan of one source: of a path that is deleted, or given this mode; of a pair that is copied; of one that is moved
+-- the plan of one source: of a path that is deleted, or given this mode; of a pair that is
+-- copied; of one that is moved
 abbrev pub path_source : Option ℕ → Route → Job
 path_source None path = plan.Delete (path ∷ [])
 path_source (Some mode) path = plan.SetMode (path ∷ []) mode
@@ -56,7 +60,8 @@ abbrev pub merges : Did → Bool
 merges (Merges transfer pair names) = true
 merges did = false
 
--- What lies in this folder may come to the one at its target so. Things are moved out of a folder only into another one, and only out of one that can be removed.
+-- What lies in this folder may come to the one at its target so. Things are moved out of a folder only into
+-- another one, and only out of one that can be removed.
 abbrev pub MayLeave : Transfer → Pair → Type 0
 MayLeave ByCopy pair = ⊤
 MayLeave ByMove pair = (is_some (parent_of pair.source) ≡ true) × (same_path pair.source pair.target ≡ false)
@@ -66,8 +71,10 @@ abbrev pub MayFollow : Did → Type 0
 MayFollow (Merges transfer pair names) = MayLeave transfer pair
 MayFollow did = ⊤
 
--- The step is written down as its report; an end leaves no job, and no source to come, and a folder that is merged leaves its children before all others.
-pub record Reports (job : Running) (did : Did) (calls : ℕ) (left : List Job) (stepped : Stepped) (after : List Job) : Type 0 where
+-- The step is written down as its report; an end leaves no job, and no source to come, and a folder that is
+-- merged leaves its children before all others.
+pub record Reports (job : Running) (did : Did) (calls : ℕ) (left : List Job) (stepped : Stepped)
+    (after : List Job) : Type 0 where
   pub told : stepped.what ≡ Step job.id did
   pub counted : stepped.calls ≡ calls
   pub stands : stepped.job ≡ (if ends did then None else Some job)
@@ -82,13 +89,15 @@ pub record Turns (job : Running) (source : Job) (stepped : Stepped) : Type 0 whe
   pub run_is : turned_job source job ≡ Some run
   pub stands : stepped.job ≡ Some run
 
--- There is no memory to go on with the next source, or to keep those of a folder that is merged, and the job ends so.
+-- There is no memory to go on with the next source, or to keep those of a folder that is
+-- merged, and the job ends so.
 pub record RunsShort (job : Running) (stepped : Stepped) : Type 0 where
   pub told : stepped.what ≡ Step job.id (Ended NoMemory (part_of job.work))
   pub uncounted : stepped.calls ≡ 0
   pub stands : stepped.job ≡ None
 
--- How a job goes on after a step that reports this and made so many calls, and which sources are left then. It is told to be finished only where none is.
+-- How a job goes on after a step that reports this and made so many calls, and which sources are left then.
+-- It is told to be finished only where none is.
 abbrev pub GoesOn : Running → Did → ℕ → List Job → Stepped → List Job → Type 0
 GoesOn job did calls left stepped after =
     (Reports job did calls left stepped after × (finishes did ≡ true → left ≡ []))
@@ -109,12 +118,14 @@ removal_steps = steps_of (removes_emptied [])
 abbrev pub moving_steps : ℕ
 moving_steps = steps_of (moves (record { source = []; target = [] })) + removal_steps
 
--- A path has at most 4,096 names, each with its slash in a text of as many bytes: so many more may come below it, and one.
+-- A path has at most 4,096 names, each with its slash in a text of as many bytes: so many more
+-- may come below it, and one.
 abbrev pub room_below : Route → ℕ
 room_below path = 4097 - length path
 
--- How many steps a source takes at most that takes so many itself, with all that is copied or moved in its place once it is merged: a folder has at most as many
--- names as a number of 64 bits counts, and each thing in it has one name less below it.
+-- How many steps a source takes at most that takes so many itself, with all that is copied or moved in its
+-- place once it is merged: a folder has at most as many names as a number of 64 bits counts, and each thing
+-- in it has one name less below it.
 abbrev pub merged_steps : ℕ → ℕ → ℕ
 merged_steps own zero = own
 merged_steps own (suc room) = own + 2 ^ 64 * merged_steps own room
@@ -124,8 +135,8 @@ abbrev pub below_steps : ℕ → ℕ → ℕ
 below_steps own zero = 0
 below_steps own (suc room) = 2 ^ 64 * merged_steps own room
 
--- how many steps the sources take that are left: each those of its work, just begun, and one more; a copy or a move also those of all that is copied or moved in
--- its place
+-- how many steps the sources take that are left: each those of its work, just begun, and one more; a copy
+-- or a move also those of all that is copied or moved in its place
 abbrev pub work_steps : ℕ → Job → ℕ
 work_steps id source = option_map_or steps_of (first_work id source) 1
 
@@ -154,7 +165,8 @@ is_next (item.Link copy) = false
 is_next (item.Stays part) = false
 
 abbrev pub is_over : Seen → Bool
-is_over c = is_next c.item && (is_empty c.levels.around && (is_empty c.levels.inner.names.names && (not (owes_at_end c.levels.inner.copy.stage false) && not (is_dirty c.levels.inner.copy.names))))
+is_over c = is_next c.item && (is_empty c.levels.around && (is_empty c.levels.inner.names.names
+    && (not (owes_at_end c.levels.inner.copy.stage false) && not (is_dirty c.levels.inner.copy.names))))
 
 -- how many steps those sources take at most that a merge of this folder leaves
 abbrev pub within_steps : Transfer → Pair → ℕ
@@ -181,4 +193,5 @@ children_on (Ends ending) work = 0
 -- how many steps are left to a job with these sources to come
 abbrev pub rank_left : List Route → Option Running → List Job → ℕ
 rank_left dirty None left = length dirty
-rank_left dirty (Some job) left = rank_with dirty (Some job) + (children_on job.course job.work + sources_rank job.id left)
+rank_left dirty (Some job) left =
+    rank_with dirty (Some job) + (children_on job.course job.work + sources_rank job.id left)

@@ -1,9 +1,11 @@
-//! The sources that a job is yet to take up. Those of a folder that was merged are kept as its names, and planned one by one.
+//! The sources that a job is yet to take up. Those of a folder that was merged are kept as its
+//! names, and planned one by one.
 ghost use Rattle.std.specs.Prelude.{◌≡◌, ◌∷◌, ◌++◌, [], IfOk, OnErr, OnOk, false, reverse, true};
 ghost use Rattle.std.specs.List.{list_all};
 ghost use Rattle.job_reports.specs.Jobs.{is_workable};
 ghost use Rattle.session_entries.specs.Sources.{children_in, pair_within};
-ghost use Rattle.job_sources.specs.Coming.{has_names, is_apart, is_sound, leaves_none, sources_at, sources_from};
+ghost use Rattle.job_sources.specs.Coming.{has_names, is_apart, is_sound};
+ghost use Rattle.job_sources.specs.Coming.{leaves_none, sources_at, sources_from};
 ghost use Rattle.job_sources.specs.Turning.{MayLeave, Takes};
 
 use crate::left::Left;
@@ -51,8 +53,8 @@ impl Later {
         Ok(())
     }
 
-    /// What lies in a folder by these names, and comes so to the folder at its target, before all others. Behind what is moved comes the
-    /// removal of the folder.
+    /// What lies in a folder by these names, and comes so to the folder at its target, before all others.
+    /// Behind what is moved comes the removal of the folder.
     pub fn put_children(
         &mut self,
         alloc: Global,
@@ -92,7 +94,8 @@ impl Later {
     }
 }
 
-/// Whether the merge of a folder with these names leaves no source; behind what is moved out of one comes its removal.
+/// Whether the merge of a folder with these names leaves no source; behind what is moved out
+/// of one comes its removal.
 fn has_none(transfer: Transfer, names: &Names) -> bool
     ensures { result ≡ leaves_none transfer names.now }
 {
@@ -140,7 +143,8 @@ fn last_first(alloc: Global, names: &Names) -> Result<Names, NoMemory>
     Ok(copies)
 }
 
-/// Takes the next source that the merge of a folder leaves, which was taken from its place, and leaves the others there.
+/// Takes the next source that the merge of a folder leaves, which was taken from its place, and
+/// leaves the others there.
 fn take_child(
     alloc: Global,
     left: &mut Vec<Left>,
@@ -150,7 +154,9 @@ fn take_child(
 ) -> Result<Option<Job>, NoMemory>
     requires place { is_sound (Left.Children transfer pair names) ≡ true }
     requires sound { list_all is_sound left.old.items ≡ true }
-    ensures taken { IfOk result (λ source. Takes (children_in transfer pair (reverse names) ++ sources_from (reverse left.old.items)) source (sources_from (reverse left.new.items))) }
+    ensures taken { IfOk result (λ source.
+        Takes (children_in transfer pair (reverse names) ++ sources_from (reverse left.old.items)) source
+        (sources_from (reverse left.new.items))) }
     ensures kept { list_all is_sound left.new.items ≡ true }
 {
     match transfer {
@@ -168,7 +174,9 @@ fn take_copied(
 ) -> Result<Option<Job>, NoMemory>
     requires some { has_names names ≡ true }
     requires sound { list_all is_sound left.old.items ≡ true }
-    ensures taken { IfOk result (λ source. Takes (children_in Transfer.ByCopy pair (reverse names) ++ sources_from (reverse left.old.items)) source (sources_from (reverse left.new.items))) }
+    ensures taken { IfOk result (λ source.
+        Takes (children_in Transfer.ByCopy pair (reverse names) ++ sources_from (reverse left.old.items))
+        source (sources_from (reverse left.new.items))) }
     ensures kept { list_all is_sound left.new.items ≡ true }
 {
     let mut names = names;
@@ -191,7 +199,9 @@ fn take_moved(
 ) -> Result<Option<Job>, NoMemory>
     requires apart { is_apart pair ≡ true }
     requires sound { list_all is_sound left.old.items ≡ true }
-    ensures taken { IfOk result (λ source. Takes (children_in Transfer.ByMove pair (reverse names) ++ sources_from (reverse left.old.items)) source (sources_from (reverse left.new.items))) }
+    ensures taken { IfOk result (λ source.
+        Takes (children_in Transfer.ByMove pair (reverse names) ++ sources_from (reverse left.old.items))
+        source (sources_from (reverse left.new.items))) }
     ensures kept { list_all is_sound left.new.items ≡ true }
 {
     let mut names = names;
@@ -203,7 +213,8 @@ fn take_moved(
     Ok(Some(source))
 }
 
-/// The pair of what has this name in a folder, alone. Its path and that of its target were told to be short enough; else it can't be planned.
+/// The pair of what has this name in a folder, alone. Its path and that of its target were told to be short
+/// enough; else it can't be planned.
 fn alone_within(alloc: Global, pair: &Pair, name: &Name) -> Result<Pairs, NoMemory>
     ensures { IfOk result (λ alone. alone ≡ pair_within pair.now name.now ∷ []) }
 {

@@ -7,7 +7,7 @@ use mc_text::Names;
 pub enum Left {
     /// The plan of one.
     Planned(Job),
-    /// What lies in a folder that was merged with the one at its target, and comes to it so: its names, of which the next one comes last.
-    /// Behind what is moved comes the removal of the folder itself.
+    /// What lies in a folder that was merged with the one at its target, and comes to it so: its names, of
+    /// which the next one comes last. Behind what is moved comes the removal of the folder itself.
     Children(Transfer, Pair, Names),
 }

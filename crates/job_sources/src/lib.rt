@@ -1,4 +1,5 @@
-//! The sources of a job: those that it is yet to take up, which comes next, and how the job goes on after each step.
+//! The sources of a job: those that it is yet to take up, which comes next, and how the job
+//! goes on after each step.
 #![tactic(auto)]
 
 mod later;

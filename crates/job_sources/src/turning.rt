@@ -36,10 +36,12 @@ pub fn go_on(alloc: Global, job: Run, made: StepResult, later: &mut Later) -> St
     }
 }
 
-/// A step as its report tells it. Where a folder is merged, and there is no memory to keep what lies in it, the job ends.
+/// A step as its report tells it. Where a folder is merged, and there is no memory to keep what
+/// lies in it, the job ends.
 fn reported(alloc: Global, job: Run, did: Did, calls: u64, later: &mut Later) -> Stepped
     requires { MayFollow did }
-    ensures { Reports job did calls later.old result later.new ⊎ ((merges did ≡ true) × (later.new ≡ []) × RunsShort job result) }
+    ensures { Reports job did calls later.old result later.new
+        ⊎ ((merges did ≡ true) × (later.new ≡ []) × RunsShort job result) }
 {
     match leave_by(alloc, &did, later) {
         Err(_e) => run_short(job, later),
@@ -62,7 +64,8 @@ fn told(job: Run, did: Did, calls: u64) -> Stepped
     }
 }
 
-/// The sources that are left once a step has reported this: none after an end, and what lies in a folder that is merged before all others.
+/// The sources that are left once a step has reported this: none after an end, and what lies in a folder
+/// that is merged before all others.
 fn leave_by(alloc: Global, did: &Did, later: &mut Later) -> Result<(), NoMemory>
     requires { MayFollow did.now }
     ensures done { OnOk result (later.new ≡ left_by did.now later.old) }
@@ -78,10 +81,12 @@ fn leave_by(alloc: Global, did: &Did, later: &mut Later) -> Result<(), NoMemory>
     }
 }
 
-/// A job that has finished a source, as it goes on with the next one. Where there is no memory for that it ends.
+/// A job that has finished a source, as it goes on with the next one. Where there is no
+/// memory for that it ends.
 fn turn(alloc: Global, job: Run, source: Job, later: &mut Later) -> Stepped
     requires workable { is_workable source ≡ true }
-    ensures goes { (Turns job source result × (later.new ≡ later.old)) ⊎ (RunsShort job result × (later.new ≡ [])) }
+    ensures goes { (Turns job source result × (later.new ≡ later.old))
+        ⊎ (RunsShort job result × (later.new ≡ [])) }
 {
     let id = job.id();
     match job.turn(alloc, &source) {

@@ -1,5 +1,6 @@
 -- Folders with a change of names that no sync has brought onto the disk.
-use Rattle.std.specs.Prelude.{◌≡◌, ◌<◌, ◌≤◌, ℕ, Bool, true, false, ◌||◌, List, [], ◌∷◌, ◌++◌, length, slice_get, Option, Some, None, if◌then◌else◌}
+use Rattle.std.specs.Prelude.{◌≡◌, ◌<◌, ◌≤◌, ℕ, Bool, true, false, ◌||◌, List, [], ◌∷◌}
+use Rattle.std.specs.Prelude.{◌++◌, length, slice_get, Option, Some, None, if◌then◌else◌}
 use Rattle.std.specs.List.{list_any}
 use Rattle.mc_text.specs.Routes.{Route, same_path, is_prefix}
 use Rattle.tree_trait.specs.CrashImages.{Among}
@@ -29,7 +30,8 @@ after_try Barrier None folder dirty = without folder dirty
 after_try Barrier (Some e) folder dirty = dirty
 after_try did left folder dirty = dirty
 
--- it is this folder, or the top or below that: so a deletion of the top, which lies in the folder, may have changed it
+-- it is this folder, or the top or below that: so a deletion of the top, which lies in the
+-- folder, may have changed it
 abbrev pub is_of : Route → Route → Route → Bool
 is_of folder top kept = same_path kept folder || is_prefix top kept
 
@@ -44,7 +46,8 @@ pub record IsOwn (folder top : Route) (folders : List Route) (kept : Route) : Ty
 
 -- none is from one place on, up to another
 abbrev pub NoneBetween : Route → Route → List Route → ℕ → ℕ → Type 0
-NoneBetween folder top folders from to = (at : ℕ) (kept : Route) → from ≤ at → at < to → slice_get folders at ≡ Some kept → is_of folder top kept ≡ false
+NoneBetween folder top folders from to = (at : ℕ) (kept : Route) → from ≤ at → at < to
+    → slice_get folders at ≡ Some kept → is_of folder top kept ≡ false
 
 -- from this place on the first that is stands there
 pub record IsOwnAt (folder top : Route) (folders : List Route) (from at : ℕ) : Type 0 where

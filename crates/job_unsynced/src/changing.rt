@@ -1,5 +1,5 @@
-//! One change with the list of what is dirty: what it makes dirty joins the list before the change, when there may still be no memory, and
-//! leaves it with its sync.
+//! One change with the list of what is dirty: what it makes dirty joins the list before the change, when
+//! there may still be no memory, and leaves it with its sync.
 ghost use Rattle.std.specs.Prelude.{◌≡◌, IfOk, OnErr, false, true};
 ghost use Rattle.job_unsynced.specs.Changes.{IsReadied, dirty_after_step};
 
@@ -17,7 +17,8 @@ pub struct Readied {
 }
 
 impl Dirty {
-    /// Readies the list for a step of the work that makes one change, where nothing was changed yet, or where this is dirty.
+    /// Readies the list for a step of the work that makes one change, where nothing was changed
+    /// yet, or where this is dirty.
     pub fn ready(
         &mut self,
         alloc: Global,

@@ -1,9 +1,12 @@
-//! Folders with a change of names that no sync has brought onto the disk. The folder of a name joins them before the name is
-//! changed, and leaves them with its sync, or where it is gone itself; that of a job that ended without one stays, until a later
-//! job syncs it. A thing that is given a mode, a file too, stands among them in the same way.
-ghost use Rattle.std.specs.Prelude.{◌≡◌, ◌+◌, ◌<◌, ◌^◌, ◌-◌, ◌||◌, ◌&&◌, [], length, not, remove, slice_get, take, true, Some, IfNone, IfOk, IfSome, OnErr, OnOk, if◌then◌else◌};
+//! Folders with a change of names that no sync has brought onto the disk. The folder of a name joins them
+//! before the name is changed, and leaves them with its sync, or where it is gone itself; that of a job
+//! that ended without one stays, until a later job syncs it. A thing that is given a mode, a file too,
+//! stands among them in the same way.
+ghost use Rattle.std.specs.Prelude.{◌≡◌, ◌+◌, ◌<◌, ◌^◌, ◌-◌, ◌||◌, ◌&&◌, [], length, not, remove, slice_get};
+ghost use Rattle.std.specs.Prelude.{take, true, Some, IfNone, IfOk, IfSome, OnErr, OnOk, if◌then◌else◌};
 ghost use Rattle.job_reports.specs.Paths.{without};
-ghost use Rattle.job_unsynced.specs.Folders.{IsOwn, IsOwnAt, NoneBetween, NoneOf, after_try, is_of, is_one_of, joined_folders};
+ghost use Rattle.job_unsynced.specs.Folders.{IsOwn, IsOwnAt, NoneBetween, NoneOf};
+ghost use Rattle.job_unsynced.specs.Folders.{after_try, is_of, is_one_of, joined_folders};
 
 use job_reports::Did;
 use mc_text::{NoMemory, Path};
@@ -53,7 +56,8 @@ impl Dirty {
     /// One more, unless it is one of them; whether it joined.
     pub fn join(&mut self, alloc: Global, folder: &Path) -> Result<bool, NoMemory>
         ensures joined { OnOk result (self.new ≡ joined_folders folder.now self.old) }
-        ensures back { IfOk result (λ more. (if more then take (length self.new - 1) self.new else self.new) ≡ self.old) }
+        ensures back { IfOk result (λ more.
+            (if more then take (length self.new - 1) self.new else self.new) ≡ self.old) }
         ensures refused { OnErr result (self.new ≡ self.old) }
     {
         if self.holds(folder) {

@@ -1,6 +1,7 @@
--- The cells of a screen, row by row in one list, and what is put into them. Own: xterm leaves open what becomes of a wide
--- cluster that is half written over; here the other half is a blank.
-use Rattle.std.specs.Prelude.{ℕ, ◌+◌, ◌-◌, Bool, true, false, if◌then◌else◌, List, Option, Some, None, slice_get, slice_set}
+-- The cells of a screen, row by row in one list, and what is put into them. Own: xterm leaves open what
+-- becomes of a wide cluster that is half written over; here the other half is a blank.
+use Rattle.std.specs.Prelude.{ℕ, ◌+◌, ◌-◌, Bool, true, false, if◌then◌else◌}
+use Rattle.std.specs.Prelude.{List, Option, Some, None, slice_get, slice_set}
 use Rattle.key_screen.specs.declared.cells.Attr.{Attr}
 use Rattle.key_screen.specs.declared.cells.Attr.TheVariants.{Plain}
 use Rattle.key_screen.specs.declared.cells.Glyph.{Glyph}
@@ -49,5 +50,6 @@ put_narrow cells at glyph attr = slice_set (freed_cells cells at) at (record { g
 -- a glyph of two columns is put into its cells
 abbrev pub put_wide : List Cell → ℕ → Glyph → Attr → List Cell
 put_wide cells at glyph attr =
-    slice_set (slice_set (freed_cells (freed_cells cells at) (at + 1)) at (record { glyph = glyph; attr = attr })) (at + 1)
+    slice_set (slice_set (freed_cells (freed_cells cells at) (at + 1)) at
+    (record { glyph = glyph; attr = attr })) (at + 1)
     (record { glyph = RightHalf; attr = attr })

@@ -1,6 +1,8 @@
--- The sequences of ECMA-48 that are written to a terminal, by the bytes after their escape: `[r;cH` places the next
--- cluster (CUP), `[2J` clears (ED), `[0m`, `[1m` and `[7m` say how text looks (SGR). That no others are read is our own.
-use Rattle.std.specs.Prelude.{ℕ, ◌+◌, ◌-◌, ◌*◌, min, Bool, ◌&&◌, ◌==◌, nat_le, if◌then◌else◌, List, [], ◌∷◌, drop, Option, Some, None}
+-- The sequences of ECMA-48 that are written to a terminal, by the bytes after their escape: `[r;cH` places
+-- the next cluster (CUP), `[2J` clears (ED), `[0m`, `[1m` and `[7m` say how text looks (SGR). That no
+-- others are read is our own.
+use Rattle.std.specs.Prelude.{ℕ, ◌+◌, ◌-◌, ◌*◌, min, Bool, ◌&&◌, ◌==◌, nat_le}
+use Rattle.std.specs.Prelude.{if◌then◌else◌, List, [], ◌∷◌, drop, Option, Some, None}
 use Rattle.key_screen.specs.declared.cells.Attr.TheVariants.{Plain, Bold, Reverse}
 use Rattle.key_screen.specs.declared.control.Control.{Control}
 use Rattle.key_screen.specs.declared.control.Control.TheVariants.{Clear, Look, Place}
@@ -19,7 +21,8 @@ is_digit byte = nat_le 48 byte && nat_le byte 57
 abbrev pub number_from : ℕ → ℕ → List ℕ → Number
 number_from n digits [] = record { value = n; digits = digits }
 number_from n digits (byte ∷ bytes) =
-    if is_digit byte then number_from (with_digit n byte) (digits + 1) bytes else record { value = n; digits = digits }
+    if is_digit byte then number_from (with_digit n byte) (digits + 1) bytes
+    else record { value = n; digits = digits }
 
 -- a control, and how many bytes it takes after its escape
 abbrev pub sequence_of : Control → ℕ → Option Sequence
@@ -35,7 +38,8 @@ placement_sequence row column (byte ∷ bytes) =
 abbrev pub placed_in_row : Number → List ℕ → Option Sequence
 placed_in_row row [] = None
 placed_in_row row (byte ∷ bytes) =
-    if byte == 59 then (let column = number_from 0 0 bytes in placement_sequence row column (drop column.digits bytes)) else None
+    if byte == 59 then
+    (let column = number_from 0 0 bytes in placement_sequence row column (drop column.digits bytes)) else None
 
 -- after `[`: a placement
 abbrev pub placement_of : List ℕ → Option Sequence

@@ -1,4 +1,5 @@
--- The only cut of a list of bytes into keys: what has come of a key is broken off by a byte that can't go on it.
+-- The only cut of a list of bytes into keys: what has come of a key is broken off by a
+-- byte that can't go on it.
 use Rattle.std.specs.Prelude.{◌≡◌, ℕ, List, [], ◌∷◌, ◌++◌, Option, Some, None}
 use Rattle.key_screen.specs.declared.keys.Key.{Key}
 use Rattle.key_screen.specs.declared.keys.Fed.{Fed}
@@ -19,13 +20,15 @@ no_key prefix = record { keys = []; rest = prefix }
 abbrev pub with_key : Key → Decoded → Decoded
 with_key key decoded = record decoded { keys = key ∷ decoded.keys }
 
--- a byte that begins a key, or is one, by what it spells alone; `after` decodes what follows the prefix of a key
+-- a byte that begins a key, or is one, by what it spells alone; `after` decodes what
+-- follows the prefix of a key
 abbrev pub decoded_afresh : Spelling → ℕ → (List ℕ → Decoded) → Decoded
 decoded_afresh Partial byte after = after (byte ∷ [])
 decoded_afresh (Whole key) byte after = with_key key (after [])
 decoded_afresh Broken byte after = after []
 
--- a byte that goes on the prefix of a key, makes it whole, or breaks it off and is read afresh, by what they spell
+-- a byte that goes on the prefix of a key, makes it whole, or breaks it off and is read
+-- afresh, by what they spell
 abbrev pub decoded_next : Spelling → List ℕ → ℕ → (List ℕ → Decoded) → Decoded
 decoded_next Partial prefix byte after = after (prefix ++ byte ∷ [])
 decoded_next (Whole key) prefix byte after = with_key key (after [])
@@ -61,7 +64,8 @@ IsUnknownFirst f = f.first ≡ Some unknown
 -- a byte broke off the prefix of a key, and was read afresh
 abbrev pub IsFedAfresh : ℕ → Fed → List ℕ → Type 0
 IsFedAfresh byte f rest =
-    with_key unknown (decoded_afresh (spelling_of (byte ∷ [])) byte no_key) ≡ record { keys = keys_fed f; rest = rest }
+    with_key unknown (decoded_afresh (spelling_of (byte ∷ [])) byte no_key)
+    ≡ record { keys = keys_fed f; rest = rest }
 
 -- what follows is decoded behind the rest of what came before
 abbrev pub followed_by : Decoded → (List ℕ → Decoded) → Decoded
@@ -70,4 +74,5 @@ followed_by before after = record (after before.rest) { keys = before.keys ++ (a
 -- bytes that are fed one by one, behind the prefix of a key, each decoded with the rest of those before it
 abbrev pub decoded_singly : List ℕ → List ℕ → Decoded
 decoded_singly prefix [] = no_key prefix
-decoded_singly prefix (byte ∷ bytes) = followed_by (decoded_keys (prefix ++ byte ∷ [])) (λ rest. decoded_singly rest bytes)
+decoded_singly prefix (byte ∷ bytes) =
+    followed_by (decoded_keys (prefix ++ byte ∷ [])) (λ rest. decoded_singly rest bytes)

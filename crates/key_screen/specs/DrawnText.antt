@@ -1,5 +1,7 @@
--- How text is drawn. Clusters are the extended grapheme clusters of UAX #29, and their columns those of unicode_width.
-use Rattle.std.specs.Prelude.{ℕ, ◌+◌, ◌-◌, Bool, true, false, not, ◌&&◌, ◌||◌, ◌==◌, nat_le, nat_lt, if◌then◌else◌, List, [], ◌∷◌, length}
+-- How text is drawn. Clusters are the extended grapheme clusters of UAX #29, and their
+-- columns those of unicode_width.
+use Rattle.std.specs.Prelude.{ℕ, ◌+◌, ◌-◌, Bool, true, false, not, ◌&&◌, ◌||◌, ◌==◌}
+use Rattle.std.specs.Prelude.{nat_le, nat_lt, if◌then◌else◌, List, [], ◌∷◌, length}
 use Rattle.std.specs.List.{list_any}
 use Rattle.std.specs.Str.{chars, is_utf8}
 use Rattle.std.specs.Char.{is_control}
@@ -26,7 +28,8 @@ stands_alone cluster = is_utf8 cluster && length (graphemes true cluster) == 1
 -- a cluster is shown as it is: one column or two, and no control
 abbrev pub is_drawable : List ℕ → Bool
 is_drawable cluster =
-    (cluster_columns cluster == 1 || cluster_columns cluster == 2) && not (has_control cluster) && stands_alone cluster
+    (cluster_columns cluster == 1 || cluster_columns cluster == 2) && not (has_control cluster)
+    && stands_alone cluster
 
 -- a cluster is a blank
 abbrev pub is_blank : List ℕ → Bool
@@ -59,5 +62,6 @@ abbrev pub put_glyphs : List Cell → ℕ → ℕ → List Glyph → Attr → Li
 put_glyphs cells at room [] attr = cells
 put_glyphs cells at room (glyph ∷ glyphs) attr =
     if has_room glyph room
-    then put_glyphs (put_glyph cells at glyph attr) (at + glyph_columns glyph) (room - glyph_columns glyph) glyphs attr
+    then put_glyphs (put_glyph cells at glyph attr) (at + glyph_columns glyph)
+    (room - glyph_columns glyph) glyphs attr
     else cells

@@ -1,5 +1,6 @@
 -- A screen of cells, and what a text that is written on it makes of it.
-use Rattle.std.specs.Prelude.{ℕ, ◌+◌, ◌-◌, ◌*◌, ◌≤◌, true, ◌&&◌, if◌then◌else◌, List, [], ◌∷◌, ◌++◌, drop, map, replicate, take}
+use Rattle.std.specs.Prelude.{ℕ, ◌+◌, ◌-◌, ◌*◌, ◌≤◌, true, ◌&&◌, if◌then◌else◌}
+use Rattle.std.specs.Prelude.{List, [], ◌∷◌, ◌++◌, drop, map, replicate, take}
 use Rattle.unicode_segmentation.specs.Grapheme.{graphemes}
 use Rattle.key_screen.specs.declared.cells.Attr.{Attr}
 use Rattle.key_screen.specs.declared.cells.Glyph.{Glyph}
@@ -17,7 +18,8 @@ pub record CellGrid : Type 0 where
 
 -- a screen of blank and plain cells
 abbrev pub blank_grid : ℕ → ℕ → CellGrid
-blank_grid lines columns = record { lines = lines; columns = columns; cells = replicate (lines * columns) blank_cell }
+blank_grid lines columns =
+    record { lines = lines; columns = columns; cells = replicate (lines * columns) blank_cell }
 
 -- a row and a column, counted from 1, lie on a screen
 pub record IsOnGrid (grid : CellGrid) (row column : ℕ) : Type 0 where
@@ -45,7 +47,8 @@ grid_with_text grid row column text attr =
 -- a text is written from a cell on, where that lies on the screen
 unfoldable pub written_at : CellGrid → ℕ → ℕ → List ℕ → Attr → CellGrid
 written_at grid row column text attr =
-    if is_within 1 grid.lines row && is_within 1 grid.columns column then grid_with_text grid row column text attr else grid
+    if is_within 1 grid.lines row && is_within 1 grid.columns column
+    then grid_with_text grid row column text attr else grid
 
 -- the cells of a row, counted from 1
 abbrev pub row_cells : CellGrid → ℕ → List Cell

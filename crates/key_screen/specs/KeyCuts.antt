@@ -9,13 +9,16 @@ abbrev pub BreaksOff : List ℕ → List ℕ → Type 0
 BreaksOff prefix [] = ⊥
 BreaksOff prefix (byte ∷ bytes) = spelling_of (prefix ++ byte ∷ []) ≡ Broken
 
--- a piece before other bytes is this key: it spells it, or it is the prefix of one, broken off, and is unknown
+-- a piece before other bytes is this key: it spells it, or it is the prefix of one,
+-- broken off, and is unknown
 abbrev pub IsKeyBefore : List ℕ → Key → List ℕ → Type 0
 IsKeyBefore piece key after =
-    (spelling_of piece ≡ Whole key) ⊎ ((spelling_of piece ≡ Partial) × BreaksOff piece after × (key ≡ unknown))
+    (spelling_of piece ≡ Whole key)
+    ⊎ ((spelling_of piece ≡ Partial) × BreaksOff piece after × (key ≡ unknown))
 
 -- the bytes are cut into these keys, up to a rest that is the prefix of one
 abbrev pub IsCut : List ℕ → List Key → List ℕ → Type 0
 IsCut bytes [] rest = (bytes ≡ rest) × (spelling_of rest ≡ Partial)
 IsCut bytes (key ∷ keys) rest =
-    (piece : List ℕ) × (after : List ℕ) × (bytes ≡ piece ++ after) × IsKeyBefore piece key after × IsCut after keys rest
+    (piece : List ℕ) × (after : List ℕ) × (bytes ≡ piece ++ after) × IsKeyBefore piece key after
+    × IsCut after keys rest

@@ -1,9 +1,12 @@
--- How a terminal spells a key. The bytes of the cursor and function keys are those that xterm and the Linux console
--- send; how escape, digits and letters make a key is mc(1)'s, and what isn't read there is our own. Characters are
--- spelled in UTF-8, whose well-formed bytes are those of the Unicode Standard's table 3-7.
-use Rattle.std.specs.Prelude.{◌<◌, ◌≤◌, ◌⊎◌, ℕ, ◌+◌, ◌-◌, ◌*◌, Bool, true, false, ◌&&◌, ◌||◌, ◌==◌, nat_le, nat_lt, if◌then◌else◌, List, [], ◌∷◌, ◌++◌, length}
+-- How a terminal spells a key. The bytes of the cursor and function keys are those that xterm and the Linux
+-- console send; how escape, digits and letters make a key is mc(1)'s, and what isn't read there is our own.
+-- Characters are spelled in UTF-8, whose well-formed bytes are those of the Unicode Standard's table 3-7.
+use Rattle.std.specs.Prelude.{◌<◌, ◌≤◌, ◌⊎◌, ℕ, ◌+◌, ◌-◌, ◌*◌, Bool, true, false, ◌&&◌, ◌||◌}
+use Rattle.std.specs.Prelude.{◌==◌, nat_le, nat_lt, if◌then◌else◌, List, [], ◌∷◌, ◌++◌, length}
 use Rattle.key_screen.specs.declared.keys.Base.{Base}
-use Rattle.key_screen.specs.declared.keys.Base.TheVariants.{Char, Ctrl, F, Up, Down, Left, Right, Home, End, Insert, Delete, PgUp, PgDn, Enter, Tab, Backspace, Escape, Unknown}
+use Rattle.key_screen.specs.declared.keys.Base.TheVariants.{Char, Ctrl, F, Up, Down, Left, Right}
+use Rattle.key_screen.specs.declared.keys.Base.TheVariants.{Home, End, Insert, Delete, PgUp, PgDn}
+use Rattle.key_screen.specs.declared.keys.Base.TheVariants.{Enter, Tab, Backspace, Escape, Unknown}
 use Rattle.key_screen.specs.declared.keys.Key.{Key}
 use Rattle.key_screen.specs.declared.spelling.Spelling.{Spelling}
 use Rattle.key_screen.specs.declared.spelling.Spelling.TheVariants.{Partial, Whole, Broken}
@@ -65,7 +68,8 @@ last_tail meta code (byte ∷ bytes) =
 -- the last two bytes of a character
 abbrev pub two_tails : Bool → ℕ → List ℕ → Spelling
 two_tails meta code [] = Partial
-two_tails meta code (byte ∷ bytes) = if is_tail byte then last_tail meta (joined_code code byte) bytes else Broken
+two_tails meta code (byte ∷ bytes) =
+    if is_tail byte then last_tail meta (joined_code code byte) bytes else Broken
 
 -- the bytes of a character of three, after the first
 abbrev pub second_of_three : Bool → ℕ → List ℕ → Spelling
@@ -79,7 +83,8 @@ second_of_four meta first [] = Partial
 second_of_four meta first (byte ∷ bytes) =
     if is_second first byte then two_tails meta (joined_code (first - 240) byte) bytes else Broken
 
--- a key that begins with this byte, which is no escape: a control, or a character; a byte that begins none is unknown
+-- a key that begins with this byte, which is no escape: a control, or a character; a byte
+-- that begins none is unknown
 abbrev pub character : Bool → ℕ → List ℕ → Spelling
 character meta first bytes =
     if nat_lt first 128 then ends (key meta (ascii_base first)) bytes

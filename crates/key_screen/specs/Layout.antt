@@ -1,5 +1,7 @@
--- The order that the cells of a screen keep. Own: xterm keeps the same one of the characters that take two columns.
-use Rattle.std.specs.Prelude.{◌≡◌, ⊤, ℕ, ◌*◌, Bool, false, ◌==◌, if◌then◌else◌, List, [], ◌∷◌, Option, Some, None}
+-- The order that the cells of a screen keep. Own: xterm keeps the same one of the
+-- characters that take two columns.
+use Rattle.std.specs.Prelude.{◌≡◌, ⊤, ℕ, ◌*◌, Bool, false, ◌==◌, if◌then◌else◌}
+use Rattle.std.specs.Prelude.{List, [], ◌∷◌, Option, Some, None}
 use Rattle.key_screen.specs.declared.cells.Attr.{Attr}
 use Rattle.key_screen.specs.declared.cells.Glyph.{Glyph}
 use Rattle.key_screen.specs.declared.cells.Glyph.TheVariants.{Blank, Cluster, RightHalf}
@@ -22,8 +24,8 @@ IsDrawn RightHalf = ⊥
 abbrev pub half_behind : Cell → Option Attr
 half_behind cell = if is_wide cell.glyph then Some cell.attr else None
 
--- a right half stands directly behind each wide cluster, looks as it does, and stands nowhere else; the first cell is
--- the right half of what stands before it where `half` says how it looks
+-- a right half stands directly behind each wide cluster, looks as it does, and stands nowhere else; the
+-- first cell is the right half of what stands before it where `half` says how it looks
 abbrev pub AreLaid : Option Attr → List Cell → Type 0
 AreLaid None [] = ⊤
 AreLaid (Some attr) [] = ⊥

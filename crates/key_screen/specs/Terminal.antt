@@ -1,6 +1,8 @@
--- What a terminal shows after bytes: text, and the sequences of specs/Controls. As xterm does, but for what isn't read,
--- which is our own, and so is that bold and reverse never add up.
-use Rattle.std.specs.Prelude.{◌≡◌, ⊤, ℕ, ◌+◌, ◌-◌, ◌*◌, min, Bool, true, false, ◌&&◌, ◌==◌, nat_le, if◌then◌else◌, List, [], ◌∷◌, length, take, drop, replicate, Option, Some, None, Result, Ok, Err}
+-- What a terminal shows after bytes: text, and the sequences of specs/Controls. As xterm does, but for what
+-- isn't read, which is our own, and so is that bold and reverse never add up.
+use Rattle.std.specs.Prelude.{◌≡◌, ⊤, ℕ, ◌+◌, ◌-◌, ◌*◌, min, Bool, true, false, ◌&&◌}
+use Rattle.std.specs.Prelude.{◌==◌, nat_le, if◌then◌else◌, List, [], ◌∷◌, length, take}
+use Rattle.std.specs.Prelude.{drop, replicate, Option, Some, None, Result, Ok, Err}
 use Rattle.std.specs.Str.{is_utf8}
 use Rattle.std.specs.Str.Lossy.{utf8_valid_len}
 use Rattle.unicode_segmentation.specs.Grapheme.{graphemes}
@@ -18,7 +20,8 @@ use Rattle.key_screen.specs.DrawnText.{cluster_columns, drawn_glyph, is_drawable
 use Rattle.key_screen.specs.Grids.{CellGrid}
 use Rattle.key_screen.specs.KeySpelling.{is_within}
 
--- the cells of a terminal, the place of the next cluster in them, the columns left in its row, and how it will look
+-- the cells of a terminal, the place of the next cluster in them, the columns left in its
+-- row, and how it will look
 pub record TerminalState : Type 0 where
   pub lines : ℕ
   pub columns : ℕ
@@ -30,7 +33,14 @@ pub record TerminalState : Type 0 where
 -- a terminal before any byte; one of no lines has no room
 abbrev pub blank_terminal : ℕ → ℕ → TerminalState
 blank_terminal lines columns =
-    record { lines = lines; columns = columns; cells = replicate (lines * columns) blank_cell; at = 0; room = min columns (lines * columns); mode = Plain }
+    record {
+      lines = lines;
+      columns = columns;
+      cells = replicate (lines * columns) blank_cell;
+      at = 0;
+      room = min columns (lines * columns);
+      mode = Plain;
+    }
 
 -- a terminal shows a cluster that can be drawn, and for which its row has room
 abbrev pub can_show : TerminalState → List ℕ → Bool
@@ -53,7 +63,8 @@ cluster_read t position cluster = if can_show t cluster then Ok (with_cluster t 
 abbrev pub clusters_read : TerminalState → ℕ → List (List ℕ) → Result TerminalState ℕ
 clusters_read t position [] = Ok t
 clusters_read t position (cluster ∷ clusters) =
-    if can_show t cluster then clusters_read (with_cluster t cluster) (position + length cluster) clusters else Err position
+    if can_show t cluster then clusters_read (with_cluster t cluster) (position + length cluster) clusters
+    else Err position
 
 -- behind what is read stands a byte that isn't, at this position
 abbrev pub up_to_fault : Result TerminalState ℕ → ℕ → Result TerminalState ℕ
@@ -64,7 +75,8 @@ up_to_fault (Err earlier) position = Err earlier
 abbrev pub text_read : TerminalState → ℕ → List ℕ → Result TerminalState ℕ
 text_read t position bytes =
     if is_utf8 bytes then clusters_read t position (graphemes true bytes)
-    else up_to_fault (clusters_read t position (graphemes true (take (utf8_valid_len bytes) bytes))) (position + utf8_valid_len bytes)
+    else up_to_fault (clusters_read t position (graphemes true (take (utf8_valid_len bytes) bytes)))
+    (position + utf8_valid_len bytes)
 
 -- what an answer tells of what was to be read: all of it, or the first byte that isn't read
 abbrev pub Reads : {T : Type 0} → Result TerminalState ℕ → Result T GridError → TerminalState → Type 0
@@ -90,11 +102,13 @@ controlled_terminal t (Place row column) =
 -- the text behind a control, if that is read; its escape stands at this position
 abbrev pub behind_control : ℕ → List ℕ → Sequence → Option TerminalState → Result TerminalState ℕ
 behind_control position bytes sequence None = Err position
-behind_control position bytes sequence (Some t) = text_read t (position + 1 + sequence.bytes) (drop sequence.bytes bytes)
+behind_control position bytes sequence (Some t) =
+    text_read t (position + 1 + sequence.bytes) (drop sequence.bytes bytes)
 
 abbrev pub behind_sequence : TerminalState → ℕ → List ℕ → Option Sequence → Result TerminalState ℕ
 behind_sequence t position bytes None = Err position
-behind_sequence t position bytes (Some sequence) = behind_control position bytes sequence (controlled_terminal t sequence.control)
+behind_sequence t position bytes (Some sequence) =
+    behind_control position bytes sequence (controlled_terminal t sequence.control)
 
 -- the bytes after an escape at this position, up to the next one, are read
 abbrev pub sequence_read : TerminalState → ℕ → List ℕ → Result TerminalState ℕ
@@ -117,7 +131,8 @@ segments (byte ∷ bytes) = if byte == 27 then [] ∷ segments bytes else in_fro
 -- what follows each escape is read, behind what was read before; the first escape stands at this position
 abbrev pub sequences_read : Result TerminalState ℕ → ℕ → List (List ℕ) → Result TerminalState ℕ
 sequences_read told position [] = told
-sequences_read (Ok t) position (bytes ∷ more) = sequences_read (sequence_read t position bytes) (position + 1 + length bytes) more
+sequences_read (Ok t) position (bytes ∷ more) =
+    sequences_read (sequence_read t position bytes) (position + 1 + length bytes) more
 sequences_read (Err earlier) position (bytes ∷ more) = Err earlier
 
 -- all bytes, cut at their escapes, are read
@@ -130,7 +145,8 @@ abbrev pub shown_grid : Result TerminalState ℕ → Result CellGrid ℕ
 shown_grid (Ok t) = Ok (record { lines = t.lines; columns = t.columns; cells = t.cells })
 shown_grid (Err position) = Err position
 
--- what a blank terminal of this size shows after these bytes, or the position of the first byte that it doesn't read
+-- what a blank terminal of this size shows after these bytes, or the position of the first
+-- byte that it doesn't read
 abbrev pub screen_after : ℕ → ℕ → List ℕ → Result CellGrid ℕ
 screen_after lines columns bytes = shown_grid (all_read (blank_terminal lines columns) (segments bytes))
 

@@ -1,6 +1,7 @@
 //! What a cell of the screen shows.
 ghost use Rattle.std.specs.Prelude.{◌≡◌, ◌<◌, ◌≤◌, ◌+◌, ◌-◌, ◌*◌, length, slice_set, true, ◌↔◌, IsTrue};
-ghost use Rattle.key_screen.specs.Cells.{freed_cells, left_freed, right_freed, right_half_at, with_blank, put_narrow, put_wide};
+ghost use Rattle.key_screen.specs.Cells.{freed_cells, left_freed, right_freed};
+ghost use Rattle.key_screen.specs.Cells.{right_half_at, with_blank, put_narrow, put_wide};
 
 use mc_text::Text;
 use std::convert::AsStr;

@@ -1,6 +1,8 @@
 //! The keys of one character, spelled in UTF-8, and the control keys.
 ghost use Rattle.std.specs.Prelude.{◌≡◌, ◌+◌, ◌*◌, ◌-◌, ◌<◌, ◌≤◌, ◌⊎◌};
-ghost use Rattle.key_screen.specs.KeySpelling.{character as character_of, ascii_base, is_second, is_tail, second_of_three, second_of_four, last_tail, two_tails, joined_code, CanEnd};
+ghost use Rattle.key_screen.specs.KeySpelling.{character as character_of, ascii_base, is_second};
+ghost use Rattle.key_screen.specs.KeySpelling.{is_tail, second_of_three, second_of_four};
+ghost use Rattle.key_screen.specs.KeySpelling.{last_tail, two_tails, joined_code, CanEnd};
 
 use crate::keys::Base;
 use crate::spelling::{Spelling, ended};

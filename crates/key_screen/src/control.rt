@@ -1,6 +1,7 @@
 //! The sequences that are written to a terminal.
 ghost use Rattle.std.specs.Prelude.{◌≡◌, ◌≤◌, ◌+◌, ◌<◌, ◌^◌, length, drop, IfSome};
-ghost use Rattle.key_screen.specs.Controls.{control_of as read_of, bracket_sequence as bracketed_of, placement_of, placement_sequence, number_from};
+ghost use Rattle.key_screen.specs.Controls.{control_of as read_of, bracket_sequence as bracketed_of};
+ghost use Rattle.key_screen.specs.Controls.{placement_of, placement_sequence, number_from};
 
 use crate::cells::Attr;
 
@@ -77,7 +78,8 @@ fn placement(bytes: &[u8]) -> Option<Sequence>
 /// The rest of a placement in this row, after `;`.
 fn place_in(row: Number, bytes: &[u8]) -> Option<Sequence>
     requires { row.digits + length bytes.now < 2 ^ 63 }
-    ensures value { result ≡ placement_sequence row (number_from 0 0 bytes.now) (drop (number_from 0 0 bytes.now).digits bytes.now) }
+    ensures value { result ≡ placement_sequence row (number_from 0 0 bytes.now)
+        (drop (number_from 0 0 bytes.now).digits bytes.now) }
     ensures within { IfSome result (λ sequence. sequence.bytes ≤ row.digits + length bytes.now + 2) }
 {
     let column = number_at(bytes);

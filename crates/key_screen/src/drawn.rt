@@ -1,7 +1,8 @@
 //! Text as a screen draws it: clusters of one column or two.
 ghost use Rattle.std.specs.Prelude.{◌≡◌, ◌≤◌, ◌*◌, true, length, map, take, IfOk};
 ghost use Rattle.unicode_segmentation.specs.Grapheme.{graphemes};
-ghost use Rattle.key_screen.specs.DrawnText.{cluster_columns, is_drawable, is_blank, drawn_glyph, glyph_columns, has_control, stands_alone};
+ghost use Rattle.key_screen.specs.DrawnText.{cluster_columns, is_drawable, is_blank, drawn_glyph};
+ghost use Rattle.key_screen.specs.DrawnText.{glyph_columns, has_control, stands_alone};
 
 use crate::cells::Glyph;
 use mc_text::{NoMemory, Text};

@@ -1,9 +1,11 @@
 //! A screen of cells.
-ghost use Rattle.std.specs.Prelude.{◌≡◌, ◌↔◌, ◌<◌, ◌≤◌, ◌+◌, ◌-◌, ◌*◌, ◌++◌, length, map, replicate, string_bytes, true, IsTrue, IfOk, OnOk, OnErr};
+ghost use Rattle.std.specs.Prelude.{◌≡◌, ◌↔◌, ◌<◌, ◌≤◌, ◌+◌, ◌-◌, ◌*◌, ◌++◌, length, map};
+ghost use Rattle.std.specs.Prelude.{replicate, string_bytes, true, IsTrue, IfOk, OnOk, OnErr};
 ghost use Rattle.unicode_segmentation.specs.Grapheme.{graphemes};
 ghost use Rattle.key_screen.specs.Cells.{blank_cell};
 ghost use Rattle.key_screen.specs.DrawnText.{drawn_glyph, glyph_columns, put_glyph, put_glyphs};
-ghost use Rattle.key_screen.specs.Grids.{blank_grid, cells_text, glyph_text, row_cells, grid_with_text, written_at, IsOnGrid};
+ghost use Rattle.key_screen.specs.Grids.{blank_grid, cells_text, glyph_text, row_cells};
+ghost use Rattle.key_screen.specs.Grids.{grid_with_text, written_at, IsOnGrid};
 ghost use Rattle.key_screen.specs.Layout.{IsLaidOut};
 
 use crate::cells::{Attr, Cell, Glyph, are_same, put_one, put_two};
@@ -40,7 +42,8 @@ impl Model for Grid {
 
     ghost view = { λ g. record { lines = g.lines; columns = g.columns; cells = g.cells.items } };
 
-    ghost invariant = { λ g. (length g.cells.items ≡ g.lines * g.columns) × (g.lines < 2 ^ 16) × (g.columns < 2 ^ 16) × IsLaidOut g.columns g.cells.items };
+    ghost invariant = { λ g. (length g.cells.items ≡ g.lines * g.columns) × (g.lines < 2 ^ 16)
+        × (g.columns < 2 ^ 16) × IsLaidOut g.columns g.cells.items };
 }
 
 impl Grid {
@@ -83,7 +86,8 @@ impl Grid {
         self.columns
     }
 
-    /// Its cells, row by row. A right half stands directly behind each wide cluster, in the same row, and nowhere else.
+    /// Its cells, row by row. A right half stands directly behind each wide cluster, in the
+    /// same row, and nowhere else.
     pub fn cells(&self) -> &[Cell]
         ensures value { result.now ≡ self.now.cells }
         ensures size { length self.now.cells ≡ self.now.lines * self.now.columns }

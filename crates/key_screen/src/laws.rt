@@ -4,7 +4,8 @@ ghost use Rattle.key_screen.specs.declared.keys.Key.{Key};
 ghost use Rattle.key_screen.specs.DecodedKeys.{decoded_keys, decoded_singly, followed_by};
 ghost use Rattle.key_screen.specs.KeyCuts.{IsCut, IsKeyBefore};
 
-/// No key is lost or doubled where the bytes come in pieces: fed one by one, or in two runs, they give the same keys.
+/// No key is lost or doubled where the bytes come in pieces: fed one by one, or in two runs,
+/// they give the same keys.
 pub fn keys_survive_any_pieces()
     ensures one_by_one { (bytes : List ℕ) → decoded_singly [] bytes ≡ decoded_keys bytes }
     ensures in_two { (first second : List ℕ) → decoded_keys (first ++ second)

@@ -1,6 +1,7 @@
 //! The reader that cuts the bytes of the terminal into keys.
 ghost use Rattle.std.specs.Prelude.{◌≡◌, ◌≤◌, [], ◌∷◌, ◌++◌, length, IsSome};
-ghost use Rattle.key_screen.specs.DecodedKeys.{decoded_keys, keys_fed, IsUnknownFirst, IsFedAfresh, keys_completed};
+ghost use Rattle.key_screen.specs.DecodedKeys.{decoded_keys, keys_fed, IsUnknownFirst};
+ghost use Rattle.key_screen.specs.DecodedKeys.{IsFedAfresh, keys_completed};
 ghost use Rattle.key_screen.specs.KeySpelling.{unknown};
 
 use crate::keys::{Base, Fed, Key};

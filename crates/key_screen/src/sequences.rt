@@ -1,6 +1,7 @@
 //! The keys that are spelled by an escape, `[` or `O`, and what follows.
 ghost use Rattle.std.specs.Prelude.{◌≡◌, []};
-ghost use Rattle.key_screen.specs.KeySpelling.{sequence as sequence_of, letter as letter_of, sequence_base, cursor_base, letter_base, one_digit_base, two_digits_base};
+ghost use Rattle.key_screen.specs.KeySpelling.{sequence as sequence_of, letter as letter_of, sequence_base};
+ghost use Rattle.key_screen.specs.KeySpelling.{cursor_base, letter_base, one_digit_base, two_digits_base};
 
 use crate::keys::Base;
 use crate::spelling::{Spelling, ended};

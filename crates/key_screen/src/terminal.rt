@@ -1,9 +1,13 @@
 //! A terminal that reads bytes, as `specs/Terminal.antt` says.
-ghost use Rattle.std.specs.Prelude.{◌≡◌, ◌<◌, ◌≤◌, ◌+◌, ◌^◌, ◌≢◌, ℕ, true, length, take, replicate, slice_index, IfOk, IfErr};
+ghost use Rattle.std.specs.Prelude.{◌≡◌, ◌<◌, ◌≤◌, ◌+◌, ◌^◌, ◌≢◌, ℕ, true, length};
+ghost use Rattle.std.specs.Prelude.{take, replicate, slice_index, IfOk, IfErr};
 ghost use Rattle.key_screen.specs.Cells.{blank_cell};
 ghost use Rattle.std.specs.Str.{IsUtf8};
 ghost use Rattle.unicode_segmentation.specs.Grapheme.{graphemes};
-ghost use Rattle.key_screen.specs.Terminal.{cluster_read, clusters_read, text_read, up_to_fault, sequence_read, controlled_terminal, looking, all_read, segments, shown_grid, screen_after, blank_terminal, Reads, Obeys, TellsScreen};
+ghost use Rattle.key_screen.specs.Terminal.{cluster_read, clusters_read, text_read, up_to_fault};
+ghost use Rattle.key_screen.specs.Terminal.{sequence_read, controlled_terminal, looking};
+ghost use Rattle.key_screen.specs.Terminal.{all_read, segments, shown_grid, screen_after};
+ghost use Rattle.key_screen.specs.Terminal.{blank_terminal, Reads, Obeys, TellsScreen};
 
 use crate::cells::{Attr, Cell, Glyph};
 use crate::control::{Control, control_of};
@@ -31,9 +35,18 @@ impl Model for Terminal {
 
     ghost Value = { TerminalState };
 
-    ghost view = { λ t. record { lines = t.lines; columns = t.columns; cells = t.cells.items; at = t.at; room = t.room; mode = t.mode } };
+    ghost view = { λ t. record {
+      lines = t.lines;
+      columns = t.columns;
+      cells = t.cells.items;
+      at = t.at;
+      room = t.room;
+      mode = t.mode;
+    } };
 
-    ghost invariant = { λ t. (length t.cells.items ≡ t.lines * t.columns) × (t.at + t.room ≤ length t.cells.items) × (t.room ≤ t.columns) × IsRowEnd t.columns (t.at + t.room) × IsLaidOut t.columns t.cells.items };
+    ghost invariant = { λ t. (length t.cells.items ≡ t.lines * t.columns)
+        × (t.at + t.room ≤ length t.cells.items) × (t.room ≤ t.columns) × IsRowEnd t.columns (t.at + t.room)
+        × IsLaidOut t.columns t.cells.items };
 }
 
 impl Terminal {
@@ -130,7 +143,8 @@ impl Terminal {
         requires bounded { position + length bytes.now < 2 ^ 63 }
         requires within { count ≤ length bytes.now }
         requires front { IsUtf8 (take count bytes.now) }
-        ensures { Reads (up_to_fault (clusters_read self.old position (graphemes true (take count bytes.now))) (position + count)) result self.new }
+        ensures { Reads (up_to_fault (clusters_read self.old position (graphemes true (take count bytes.now)))
+            (position + count)) result self.new }
     {
         match str::from_utf8(&bytes[..count]) {
             Ok(text) => {

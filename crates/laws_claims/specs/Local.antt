@@ -1,4 +1,5 @@
--- A change that keeps to claims: it touches only what they write, and what it does rests only on what lies near them.
+-- A change that keeps to claims: it touches only what they write, and what it does rests
+-- only on what lies near them.
 use Rattle.std.specs.Prelude.{◌≡◌, true, false, List}
 use Rattle.mc_text.specs.Routes.{Route}
 use Rattle.tree_trait.specs.FileSystem.{View}
@@ -22,5 +23,6 @@ WorkLaw = (job : Job) (work : Work) → KeepsTo (claims job) (does job work)
 
 -- What keeps to claims that don't clash comes to the same in either order.
 abbrev pub OrderLaw : Type 0
-OrderLaw = (mine theirs : List Claim) (f g : View → View) → clashes mine theirs ≡ false → KeepsTo mine f → KeepsTo theirs g
+OrderLaw = (mine theirs : List Claim) (f g : View → View) → clashes mine theirs ≡ false → KeepsTo mine f
+    → KeepsTo theirs g
     → (v : View) → f (g v) ≡ g (f v)

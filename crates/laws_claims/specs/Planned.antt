@@ -7,8 +7,10 @@ use Rattle.laws_claims.specs.Views.{one_mount}
 use Rattle.mc_text.specs.declared.kind.Kind.{Kind}
 use Rattle.mc_text.specs.declared.kind.Kind.TheVariants.{File, Folder, Link, Other}
 use Rattle.op_plan.specs.declared.job.Job.{Job}
-use Rattle.op_plan.specs.declared.job.Job.TheVariants.{Copy, Move, Delete, MakeFolder, SetMode, MakeLink, Save}
-use Rattle.laws_claims.specs.Works.{Part, Make, Place, Set, Remove, is_part, source_of, Plain, deleting, making, setting, linking, saving}
+use Rattle.op_plan.specs.declared.job.Job.TheVariants.{Copy, Move, Delete, MakeFolder}
+use Rattle.op_plan.specs.declared.job.Job.TheVariants.{SetMode, MakeLink, Save}
+use Rattle.laws_claims.specs.Works.{Part, Make, Place, Set, Remove, is_part, source_of}
+use Rattle.laws_claims.specs.Works.{Plain, deleting, making, setting, linking, saving}
 use Rattle.laws_claims.specs.Outcome.{Decisions, Spotted, AtTarget, AtSource, Elsewhere, place, outcome}
 
 abbrev pub folder_kind : Kind → Bool
@@ -43,12 +45,14 @@ copy_parts source target Remove = false
 -- the parts of an item that is moved: on one mount all goes by renaming, but a folder whose target is there
 abbrev pub move_parts : Bool → Option Value → Option Value → Part → Bool
 move_parts one source target Make = is_folder source && (is_none target && not one)
-move_parts one source target Place = is_whole source || (one && (is_special source || (is_folder source && is_none target)))
+move_parts one source target Place =
+    is_whole source || (one && (is_special source || (is_folder source && is_none target)))
 move_parts one source target Set = is_folder source && (is_none target && not one)
 move_parts one source target Remove = false
 
 abbrev pub moving_parts : View → Part → Route → Spotted → Bool
-moving_parts v part p (AtTarget pair rest) = move_parts (one_mount v (rest ++ pair.source) p) (v (rest ++ pair.source)).value (v p).value part
+moving_parts v part p (AtTarget pair rest) =
+    move_parts (one_mount v (rest ++ pair.source) p) (v (rest ++ pair.source)).value (v p).value part
 moving_parts v part p (AtSource pair rest) = is_part part Remove
 moving_parts v part p Elsewhere = false
 
@@ -57,7 +61,8 @@ plain_parts plain part p = is_part part plain.part && plain.is_at p
 
 -- the parts of a job, by the view at its start
 abbrev pub planned_decisions : View → Job → Decisions
-planned_decisions v (Copy pairs) part p = option_map_or (λ source. copy_parts (v source).value (v p).value part) (source_of pairs p) false
+planned_decisions v (Copy pairs) part p =
+    option_map_or (λ source. copy_parts (v source).value (v p).value part) (source_of pairs p) false
 planned_decisions v (Move pairs) part p = moving_parts v part p (place pairs p)
 planned_decisions v (Delete paths) part p = plain_parts (deleting paths) part p
 planned_decisions v (MakeFolder path) part p = plain_parts (making path) part p
@@ -77,8 +82,11 @@ IsPlanned v job d = (part : Part) (p : Route) → d part p ≡ true → planned_
 
 -- a value from before or after the job, or a folder where there will be one
 abbrev pub IsBetween : View → Job → Route → Option Value → Type 0
-IsBetween v job p now = (now ≡ before v job p) ⊎ (now ≡ after v job p) ⊎ ((is_folder now ≡ true) × (is_folder (after v job p) ≡ true))
+IsBetween v job p now = (now ≡ before v job p) ⊎ (now ≡ after v job p)
+    ⊎ ((is_folder now ≡ true) × (is_folder (after v job p) ≡ true))
 
--- Whatever parts are done, each path holds a value from before or after, or is a folder that will stand there.
+-- Whatever parts are done, each path holds a value from before or after, or is a
+-- folder that will stand there.
 abbrev pub BetweenLaw : Type 0
-BetweenLaw = (v : View) (job : Job) (d : Decisions) → IsPlanned v job d → (p : Route) → IsBetween v job p (outcome v job d p).value
+BetweenLaw = (v : View) (job : Job) (d : Decisions) → IsPlanned v job d → (p : Route)
+    → IsBetween v job p (outcome v job d p).value

@@ -24,7 +24,8 @@ holding new spot = record spot { value = new }
 
 -- a thing at another path, with all that lies below it; nothing is left where it was
 abbrev pub carry : View → Route → Route → View
-carry v from to p = option_map_or (λ rest. v (rest ++ from)) (below to p) (if is_prefix from p then nothing else v p)
+carry v from to p =
+    option_map_or (λ rest. v (rest ++ from)) (below to p) (if is_prefix from p then nothing else v p)
 
 -- the view after a change
 abbrev pub apply : Change → View → View

@@ -1,5 +1,6 @@
 -- What the parts of a job do to the view.
-use Rattle.std.specs.Prelude.{true, false, ℕ, Bool, ◌&&◌, ◌==◌, if◌then◌else◌, List, [], ◌∷◌, ◌++◌, Option, Some, None, bit_or}
+use Rattle.std.specs.Prelude.{true, false, ℕ, Bool, ◌&&◌, ◌==◌, if◌then◌else◌}
+use Rattle.std.specs.Prelude.{List, [], ◌∷◌, ◌++◌, Option, Some, None, bit_or}
 use Rattle.std.specs.Option.{option_map, option_map_or}
 use Rattle.std.specs.List.{list_any}
 use Rattle.mc_text.specs.Routes.{Route, same_path, is_prefix}
@@ -10,17 +11,19 @@ use Rattle.laws_claims.specs.Views.{Change, Nothing, Puts, Carries, apply, one_m
 use Rattle.mc_text.specs.declared.kind.Kind.{Kind}
 use Rattle.mc_text.specs.declared.kind.Kind.TheVariants.{File, Folder, Link, Other}
 use Rattle.op_plan.specs.declared.job.Job.{Job}
-use Rattle.op_plan.specs.declared.job.Job.TheVariants.{Copy, Move, Delete, MakeFolder, SetMode, MakeLink, Save}
+use Rattle.op_plan.specs.declared.job.Job.TheVariants.{Copy, Move, Delete, MakeFolder}
+use Rattle.op_plan.specs.declared.job.Job.TheVariants.{SetMode, MakeLink, Save}
 
--- The parts of an item: a folder is made, a thing is placed, by a copy or by one renaming, a mode is set, a thing is removed.
+-- The parts of an item: a folder is made, a thing is placed, by a copy or by one renaming, a mode is
+-- set, a thing is removed.
 pub data Part : Type 0 where
   Make : Part
   Place : Part
   Set : Part
   Remove : Part
 
--- A part that is done, as an entry says. Its path is that of the item's target, but of a source or of a thing deleted
--- where it is removed.
+-- A part that is done, as an entry says. Its path is that of the item's target, but of a source or of a
+-- thing deleted where it is removed.
 pub data Work : Type 0 where
   Did : (part : Part) (path : Route) → Work
 
@@ -72,7 +75,8 @@ is_one_of paths p = list_any (same_path p) paths
 -- the source of what is at or below a target
 abbrev pub source_of : List Pair → Route → Option Route
 source_of [] p = None
-source_of (pair ∷ pairs) p = option_map_or (λ rest. Some (rest ++ pair.source)) (below pair.target p) (source_of pairs p)
+source_of (pair ∷ pairs) p =
+    option_map_or (λ rest. Some (rest ++ pair.source)) (below pair.target p) (source_of pairs p)
 
 abbrev pub from_source : List Pair → Route → (Route → Change) → Change
 from_source pairs p change = option_map_or change (source_of pairs p) Nothing
@@ -91,11 +95,13 @@ copies v Remove p source = Nothing
 -- a part of a move
 abbrev pub moves : List Pair → View → Part → Route → Change
 moves pairs v Make p = from_source pairs p (copies v Make p)
-moves pairs v Place p = from_source pairs p (λ source. if one_mount v source p then Carries source p else Puts p (v source).value)
+moves pairs v Place p =
+    from_source pairs p (λ source. if one_mount v source p then Carries source p else Puts p (v source).value)
 moves pairs v Set p = from_source pairs p (copies v Set p)
 moves pairs v Remove p = if covers (sources pairs) p then Puts p None else Nothing
 
--- A job that reads nothing but its own paths: the part that each has, where, and the new value by the old one.
+-- A job that reads nothing but its own paths: the part that each has, where, and the
+-- new value by the old one.
 pub record Plain : Type 0 where
   pub part : Part
   pub is_at : Route → Bool
@@ -114,10 +120,15 @@ abbrev pub linking : Route → List ℕ → Plain
 linking path text = record { part = Place; is_at = λ p. same_path p path; new = λ o. Some (link text) }
 
 abbrev pub saving : Route → List ℕ → Plain
-saving path bytes = record { part = Place; is_at = λ p. same_path p path; new = λ o. Some (file bytes (file_mode_or o 0o644)) }
+saving path bytes = record {
+  part = Place;
+  is_at = λ p. same_path p path;
+  new = λ o. Some (file bytes (file_mode_or o 0o644));
+}
 
 abbrev pub plainly : Plain → View → Part → Route → Change
-plainly plain v part p = if is_part part plain.part && plain.is_at p then Puts p (plain.new (v p).value) else Nothing
+plainly plain v part p =
+    if is_part part plain.part && plain.is_at p then Puts p (plain.new (v p).value) else Nothing
 
 -- the change of the view that a work of a job is
 abbrev pub change : Job → View → Work → Change

@@ -6,8 +6,8 @@ ghost use Rattle.laws_claims.specs.Local.{WorkLaw};
 ghost use Rattle.laws_claims.specs.Planned.{BetweenLaw};
 ghost use Rattle.laws_claims.specs.Recursion.{RecursionLaw};
 
-/// Two jobs whose claims don't clash come to the same in either order: their works, however they are interleaved, and their
-/// outcomes.
+/// Two jobs whose claims don't clash come to the same in either order: their works, however they are
+/// interleaved, and their outcomes.
 pub fn jobs_commute()
     ensures works { WorksCommute }
     ensures outcomes { OutcomesCommute }
@@ -23,7 +23,8 @@ pub fn works_leave_the_outcome()
     ensures { FitLaw }
 {}
 
-/// Whatever parts of a job are done, a path holds its value from before or after, or is a folder that will stand there.
+/// Whatever parts of a job are done, a path holds its value from before or after, or is a
+/// folder that will stand there.
 pub fn nothing_else_stands_there()
     ensures { BetweenLaw }
 {}

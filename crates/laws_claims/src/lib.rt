@@ -1,5 +1,6 @@
-//! Laws of jobs: what the parts of a job do to the tree that can be seen, what a job leaves, and that jobs whose claims
-//! don't clash come to the same in either order. No code: each law is the contract of an empty call.
+//! Laws of jobs: what the parts of a job do to the tree that can be seen, what a job leaves, and
+//! that jobs whose claims don't clash come to the same in either order. No code: each law is the
+//! contract of an empty call.
 #![tactic(auto)]
 
 mod laws;

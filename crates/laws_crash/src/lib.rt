@@ -1,5 +1,5 @@
-//! Laws of what a crash leaves while several jobs change a tree, in any order of their steps. The functions do nothing: their
-//! contracts are laws of the definitions in `specs/`.
+//! Laws of what a crash leaves while several jobs change a tree, in any order of their steps. The functions
+//! do nothing: their contracts are laws of the definitions in `specs/`.
 #![tactic(auto)]
 
 mod done_calls;

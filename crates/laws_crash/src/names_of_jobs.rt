@@ -1,5 +1,6 @@
 //! What a job has to know before it changes a name, and what its changes keep.
-ghost use Rattle.laws_crash.specs.NameKnowledge.{MakingLaw, MovingLaw, NamesOfMovedLaw, PlacingLaw, RemovalLaw, UnworkedLaw};
+ghost use Rattle.laws_crash.specs.NameKnowledge.{MakingLaw, MovingLaw, NamesOfMovedLaw};
+ghost use Rattle.laws_crash.specs.NameKnowledge.{PlacingLaw, RemovalLaw, UnworkedLaw};
 
 /// A job may remove what it found.
 pub fn what_a_removal_is()

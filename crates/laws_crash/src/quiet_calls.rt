@@ -1,6 +1,7 @@
 //! Syncs, writes and modes: what they keep, and what a sync settles.
 ghost use Rattle.laws_crash.specs.Modes.{ModesLaw, SettingLaw};
-ghost use Rattle.laws_crash.specs.NameKnowledge.{BelowLaw, FirmLaw, GoneLaw, ModeLaw, SyncLaw, SyncedLaw, UnalteredLaw, WriteLaw};
+ghost use Rattle.laws_crash.specs.NameKnowledge.{BelowLaw, FirmLaw, GoneLaw, ModeLaw};
+ghost use Rattle.laws_crash.specs.NameKnowledge.{SyncLaw, SyncedLaw, UnalteredLaw, WriteLaw};
 
 /// A sync keeps what is known.
 pub fn what_a_sync_keeps()

@@ -1,14 +1,18 @@
--- Where a job keeps the file or the link at its target, or the folder there that a folder is merged with, it has changed nothing; in the words of the history alone. Histories stand newest first here.
+-- Where a job keeps the file or the link at its target, or the folder there that a folder is merged with,
+-- it has changed nothing; in the words of the history alone. Histories stand newest first here.
 use Rattle.std.specs.Prelude.{◌≡◌, ℕ, ◌==◌, Bool, true, false, if◌then◌else◌, List, [], ◌∷◌}
 use Rattle.mc_text.specs.Routes.{Route}
 use Rattle.tree_trait.specs.Shape.{IsTree}
 use Rattle.tree_trait.specs.Change.{CallLog, current}
 use Rattle.tree_trait.specs.CrashImages.{all_settled}
 use Rattle.job_reports.specs.declared.report.Did.{Did}
-use Rattle.job_reports.specs.declared.report.Did.TheVariants.{Began, Chunk, Placed, Removed, Made, Set, Kept, Skipped, Cleaned, Barrier, Asked, Merges, Moved, Troubled, Ended}
+use Rattle.job_reports.specs.declared.report.Did.TheVariants.{Began, Chunk, Placed, Removed, Made}
+use Rattle.job_reports.specs.declared.report.Did.TheVariants.{Set, Kept, Skipped, Cleaned, Barrier}
+use Rattle.job_reports.specs.declared.report.Did.TheVariants.{Asked, Merges, Moved, Troubled, Ended}
 use Rattle.job_reports.specs.Jobs.{Copies}
 use Rattle.session_entries.specs.declared.history.Event.{Event}
-use Rattle.session_entries.specs.declared.history.Event.TheVariants.{Key, Look, Sought, Order, Step, Next, Closed}
+use Rattle.session_entries.specs.declared.history.Event.TheVariants.{Key, Look, Sought, Order}
+use Rattle.session_entries.specs.declared.history.Event.TheVariants.{Step, Next, Closed}
 use Rattle.session_entries.specs.declared.history.Event.TheVariants as event
 use Rattle.session_entries.specs.declared.history.Entry.{Entry}
 use Rattle.session_entries.specs.Entries.{IsMoment}
@@ -17,7 +21,8 @@ use Rattle.laws_sessions.specs.Traces.{IsTraced, Stand}
 use Rattle.laws_outcomes.specs.Outcomes.{Finishes}
 use Rattle.laws_outcomes.specs.Begun.{tree_begun}
 
--- whether a job has kept something once it has reported this: a file or a link at its target, or a folder there, with which that of the source is merged
+-- whether a job has kept something once it has reported this: a file or a link at its target, or a folder
+-- there, with which that of the source is merged
 abbrev pub keeps_by : Did → Bool → Bool
 keeps_by (Kept path) before = true
 keeps_by (Began part) before = before
@@ -45,18 +50,22 @@ keeps_after id Sought before = before
 keeps_after id (Order number order) before = before
 keeps_after id Closed before = before
 
--- the job that was begun last with this number has kept something, of the source at which it is: where it copies, what stood at its target
+-- the job that was begun last with this number has kept something, of the source at which it is: where it
+-- copies, what stood at its target
 abbrev pub has_kept : ℕ → List Entry → Bool
 has_kept id [] = false
 has_kept id (e ∷ older) = keeps_after id e.what (has_kept id older)
 
--- Wherever in a history a job is done with a copy whose target it has kept, each path shows what it showed where the job began with it.
+-- Wherever in a history a job is done with a copy whose target it has kept, each path shows what it showed
+-- where the job began with it.
 abbrev pub LeavesKept : CallLog → CallLog → List Entry → Type 0
 LeavesKept opening now newest =
     (e : Entry) (older : List Entry) (id : ℕ) (source target path : Route)
-    → Finishes e older id (Copies source target) → IsMoment newest (e ∷ older) (e ∷ older) e.calls → has_kept id older ≡ true
+    → Finishes e older id (Copies source target) → IsMoment newest (e ∷ older) (e ∷ older) e.calls
+    → has_kept id older ≡ true
     → replayed_tree opening now older path ≡ tree_begun opening now id older path
 
 abbrev pub KeptLaw : Type 0
 KeptLaw = (opening now : CallLog) (newest : List Entry) (stand : Stand)
-    → IsTree (current opening) → all_settled opening.changes ≡ true → IsTraced opening newest stand now → LeavesKept opening now newest
+    → IsTree (current opening) → all_settled opening.changes ≡ true → IsTraced opening newest stand now
+    → LeavesKept opening now newest

@@ -1,4 +1,5 @@
--- While a job is live nothing changes but what it may touch; in the words of the history alone. Histories stand newest first here.
+-- While a job is live nothing changes but what it may touch; in the words of the history alone. Histories
+-- stand newest first here.
 use Rattle.std.specs.Prelude.{◌≡◌, ℕ, ◌||◌, Bool, true, false, List, ◌∷◌}
 use Rattle.mc_text.specs.Routes.{Route, is_prefix, same_path}
 use Rattle.tree_trait.specs.Shape.{IsTree}
@@ -12,7 +13,8 @@ use Rattle.laws_sessions.specs.Traces.{IsTraced, Stand}
 use Rattle.laws_outcomes.specs.Begun.{tree_begun}
 use Rattle.laws_outcomes.specs.Outcomes.{Finishes}
 
--- a path that a job may change: what it makes, removes or gives a mode; where it copies or deletes, also what lies in that; where it moves, so of both its paths
+-- a path that a job may change: what it makes, removes or gives a mode; where it copies or deletes, also
+-- what lies in that; where it moves, so of both its paths
 abbrev pub touches : ItemOfJob → Route → Bool
 touches (Copies source target) path = is_prefix target path
 touches (Moves source target) path = is_prefix source path || is_prefix target path
@@ -22,12 +24,15 @@ touches (MakesLink made text) path = same_path path made
 touches (Sets thing mode) path = same_path path thing
 touches (RemovesEmptied folder) path = same_path path folder
 
--- Wherever in a history a job is done with an item, each path that this doesn't touch shows what it showed where the job began with it.
+-- Wherever in a history a job is done with an item, each path that this doesn't touch shows what it showed
+-- where the job began with it.
 abbrev pub LeavesAlone : CallLog → CallLog → List Entry → Type 0
 LeavesAlone opening now newest =
     (e : Entry) (older : List Entry) (id : ℕ) (item : ItemOfJob) (path : Route)
-    → Finishes e older id item → IsMoment newest (e ∷ older) (e ∷ older) e.calls → touches item path ≡ false → replayed_tree opening now older path ≡ tree_begun opening now id older path
+    → Finishes e older id item → IsMoment newest (e ∷ older) (e ∷ older) e.calls → touches item path ≡ false
+    → replayed_tree opening now older path ≡ tree_begun opening now id older path
 
 abbrev pub UntouchedLaw : Type 0
 UntouchedLaw = (opening now : CallLog) (newest : List Entry) (stand : Stand)
-    → IsTree (current opening) → all_settled opening.changes ≡ true → IsTraced opening newest stand now → LeavesAlone opening now newest
+    → IsTree (current opening) → all_settled opening.changes ≡ true → IsTraced opening newest stand now
+    → LeavesAlone opening now newest

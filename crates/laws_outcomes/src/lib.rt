@@ -1,4 +1,5 @@
-//! Laws of what a job leaves of a source with which it is done. The functions do nothing: their contracts are laws of the definitions in `specs/`.
+//! Laws of what a job leaves of a source with which it is done. The functions do nothing: their contracts
+//! are laws of the definitions in `specs/`.
 #![tactic(auto)]
 
 ghost use Rattle.laws_outcomes.specs.AllSources.{AllSourcesLaw};
@@ -7,22 +8,23 @@ ghost use Rattle.laws_outcomes.specs.Keeps.{KeptLaw};
 ghost use Rattle.laws_outcomes.specs.Outcomes.{OutcomeLaw};
 ghost use Rattle.laws_outcomes.specs.Untouched.{UntouchedLaw};
 
-/// Where a job is done with one of its sources, all that it was to do with it is done, but for what it passed over; and that is still so at its end,
-/// where no later one touches what concerns that source.
+/// Where a job is done with one of its sources, all that it was to do with it is done, but for what it
+/// passed over; and that is still so at its end, where no later one touches what concerns that source.
 pub fn what_a_finished_job_has_done()
     ensures done { OutcomeLaw }
     ensures with_all { AllSourcesLaw }
 {}
 
-/// And each path that it doesn't touch for that source shows what it showed where the job began with it; where it kept the file or the link at its target,
-/// or merged a folder with that there, each path does.
+/// And each path that it doesn't touch for that source shows what it showed where the job began with it;
+/// where it kept the file or the link at its target, or merged a folder with that there, each path does.
 pub fn what_a_finished_job_left_alone()
     ensures untouched { UntouchedLaw }
     ensures kept { KeptLaw }
 {}
 
-/// What a copy or a move replaces, keeps or asks about at its target is as was answered to it. A folder that it merges is merged whole, and an
-/// emptied folder is removed only where nothing lies in it, and kept only where something does.
+/// What a copy or a move replaces, keeps or asks about at its target is as was answered to it. A folder
+/// that it merges is merged whole, and an emptied folder is removed only where nothing lies in it, and kept
+/// only where something does.
 pub fn what_was_answered_decides()
     ensures { AnsweredLaw }
 {}

@@ -1,5 +1,5 @@
--- Once a job has made its first change, nothing is in doubt on its mount but what that change names; in the words of the
--- history alone. Histories stand newest first here.
+-- Once a job has made its first change, nothing is in doubt on its mount but what that change names; in the
+-- words of the history alone. Histories stand newest first here.
 use Rattle.std.specs.Prelude.{◌≡◌, ◌⊎◌, ℕ, Bool, true, false, ◌||◌, List, ◌∷◌, Some}
 use Rattle.mc_text.specs.Routes.{Route, same_path}
 use Rattle.tree_trait.specs.Shape.{IsTree}
@@ -19,7 +19,8 @@ use Rattle.laws_sessions.specs.Replayed.{log_prefix}
 use Rattle.session_entries.specs.Entries.{IsMoment, calls_in}
 use Rattle.laws_sessions.specs.Traces.{IsTraced, Stand}
 
--- This entry, after the older ones, is the report of the first change of a job that changes names in this folder.
+-- This entry, after the older ones, is the report of the first change of a job that
+-- changes names in this folder.
 pub record HasBegun (e : Entry) (older : List Entry) (folder : Route) : Type 0 where
   pub id : ℕ
   pub did : Did
@@ -40,17 +41,25 @@ abbrev pub changes_thing : Did → Route → Bool
 changes_thing (Moved pair) path = false
 changes_thing did path = names did path
 
--- When such an entry has come to stand, a path of whose name a change isn't on the disk yet is one whose name this entry changes, or it waited before, and its
--- folder lay on another mount then, or was removed. One of which a mode isn't, parts aside, is one that it changes, or waited before, and lay itself on another mount;
--- or a part that an ended job left lies there now, with what was moved.
+-- When such an entry has come to stand, a path of whose name a change isn't on the disk yet is one whose
+-- name this entry changes, or it waited before, and its folder lay on another mount then, or was removed.
+-- One of which a mode isn't, parts aside, is one that it changes, or waited before, and lay itself on
+-- another mount; or a part that an ended job left lies there now, with what was moved.
 pub record CalmsOthers (opening now : CallLog) (newest : List Entry) : Type 0 where
   pub names : (e : Entry) (older : List Entry) (folder path : Route) (begun : HasBegun e older folder)
-      → IsMoment newest (e ∷ older) (e ∷ older) e.calls → name_waits (log_prefix opening e.calls now) path ≡ true
-      → (changes_name begun.did path ≡ true) ⊎ ((name_waits (log_prefix opening (calls_in older) now) path ≡ true) × IsApart (log_prefix opening (calls_in older) now) folder (folder_of path))
+      → IsMoment newest (e ∷ older) (e ∷ older) e.calls
+      → name_waits (log_prefix opening e.calls now) path ≡ true
+      → (changes_name begun.did path ≡ true)
+      ⊎ ((name_waits (log_prefix opening (calls_in older) now) path ≡ true)
+      × IsApart (log_prefix opening (calls_in older) now) folder (folder_of path))
   pub modes : (e : Entry) (older : List Entry) (folder path : Route) (begun : HasBegun e older folder)
-      → IsMoment newest (e ∷ older) (e ∷ older) e.calls → (Among (named_parts older) path → ⊥) → node_waits (log_prefix opening e.calls now) path ≡ true
-      → (changes_thing begun.did path ≡ true) ⊎ (Among (named_parts (e ∷ older)) path ⊎ ((node_waits (log_prefix opening (calls_in older) now) path ≡ true) × IsApart (log_prefix opening (calls_in older) now) folder path))
+      → IsMoment newest (e ∷ older) (e ∷ older) e.calls → (Among (named_parts older) path → ⊥)
+      → node_waits (log_prefix opening e.calls now) path ≡ true
+      → (changes_thing begun.did path ≡ true) ⊎ (Among (named_parts (e ∷ older)) path
+      ⊎ ((node_waits (log_prefix opening (calls_in older) now) path ≡ true)
+      × IsApart (log_prefix opening (calls_in older) now) folder path))
 
 abbrev pub CalmLaw : Type 0
 CalmLaw = (opening now : CallLog) (newest : List Entry) (stand : Stand)
-    → IsTree (current opening) → all_settled opening.changes ≡ true → IsTraced opening newest stand now → CalmsOthers opening now newest
+    → IsTree (current opening) → all_settled opening.changes ≡ true → IsTraced opening newest stand now
+    → CalmsOthers opening now newest

@@ -1,4 +1,5 @@
--- What waits for a sync lies in a dirty folder, and a job's first change comes only where nothing waits on that mount.
+-- What waits for a sync lies in a dirty folder, and a job's first change comes only where
+-- nothing waits on that mount.
 use Rattle.std.specs.Prelude.{◌≡◌, ◌⊎◌, ℕ, Bool, true, false, ◌||◌, List, [], ◌∷◌, Option, Some}
 use Rattle.mc_text.specs.Routes.{Route, same_path}
 use Rattle.tree_trait.specs.declared.calls.TreeError.TheVariants.{Missing}
@@ -20,42 +21,57 @@ use Rattle.copy_move.specs.Jobs.{Running, is_fresh}
 use Rattle.copy_move.specs.Settling.{IsMountOf, changed_folder, is_own}
 use Rattle.copy_move.specs.JobStepReports.{RunStep, step_made}
 use Rattle.laws_sessions.specs.Traces.{IsUnclaimed, IsTraced, Stand, StepLeads, WorkLeads, unless_ended}
-use Rattle.laws_sessions.specs.Doubt.{IsJoined, IsMountInDoubt, is_unsettled, name_waits, node_waits, way_waits}
+use Rattle.laws_sessions.specs.Doubt.{IsJoined, IsMountInDoubt, is_unsettled}
+use Rattle.laws_sessions.specs.Doubt.{name_waits, node_waits, way_waits}
 
 -- this folder is dirty, or one is for which and this one a renaming waits
 abbrev pub IsOwed : List Route → CallLog → Route → Type 0
-IsOwed dirty log folder = Among dirty folder ⊎ ((other : Route) × Among dirty other × IsJoined log folder other)
+IsOwed dirty log folder =
+    Among dirty folder ⊎ ((other : Route) × Among dirty other × IsJoined log folder other)
 
--- Where each entry ends, a path of whose name a change isn't on the disk yet lies in a dirty folder, or in one from which, or to which, something was moved that
--- waits for a dirty one; and one of which a mode isn't, a part's aside, is itself dirty.
+-- Where each entry ends, a path of whose name a change isn't on the disk yet lies in a dirty folder, or in
+-- one from which, or to which, something was moved that waits for a dirty one; and one of which a mode
+-- isn't, a part's aside, is itself dirty.
 pub record OwedLaw : Type 0 where
   pub names : (opening now : CallLog) (newest : List Entry) (stand : Stand) (path : Route)
-      → IsTree (current opening) → all_settled opening.changes ≡ true → IsTraced opening newest stand now → name_waits now path ≡ true → IsOwed stand.dirty now (folder_of path)
+      → IsTree (current opening) → all_settled opening.changes ≡ true → IsTraced opening newest stand now
+      → name_waits now path ≡ true → IsOwed stand.dirty now (folder_of path)
   pub modes : (opening now : CallLog) (newest : List Entry) (stand : Stand) (path : Route)
-      → IsTree (current opening) → all_settled opening.changes ≡ true → IsTraced opening newest stand now → (Among (named_parts newest) path → ⊥) → node_waits now path ≡ true → Among stand.dirty path
+      → IsTree (current opening) → all_settled opening.changes ≡ true → IsTraced opening newest stand now
+      → (Among (named_parts newest) path → ⊥) → node_waits now path ≡ true → Among stand.dirty path
 
 -- a folder lies on another mount than this one, or it was removed
 abbrev pub IsApart : CallLog → Route → Route → Type 0
 IsApart log folder other =
-    (refusal_of (current log) (Stat other) ≡ Some Missing) ⊎ ((number : ℕ) × IsMountOf (current log) folder number × (IsMountOf (current log) other number → ⊥))
+    (refusal_of (current log) (Stat other) ≡ Some Missing)
+    ⊎ ((number : ℕ) × IsMountOf (current log) folder number × (IsMountOf (current log) other number → ⊥))
 
--- a folder in which a change of a job waits from its first on: one of its own, but of a move only the two that hold its names
+-- a folder in which a change of a job waits from its first on: one of its own, but of a move only
+-- the two that hold its names
 abbrev pub waits_in : Work → Route → Bool
-waits_in (Move m) folder = same_path folder (folder_of m.pair.source) || same_path folder (folder_of m.pair.target)
+waits_in (Move m) folder =
+    same_path folder (folder_of m.pair.source) || same_path folder (folder_of m.pair.target)
 waits_in work folder = is_own work folder
 
--- Once the live job has made its first change, each change of a name that isn't on the disk yet is in such a folder, on another mount, or in a
--- folder that was removed; and each mode that isn't, parts aside, is of such a path itself.
+-- Once the live job has made its first change, each change of a name that isn't on the disk yet is in
+-- such a folder, on another mount, or in a folder that was removed; and each mode that isn't, parts
+-- aside, is of such a path itself.
 abbrev pub FirstChange : (Running → Route → CallLog → List Entry → CallLog → Type 0) → Type 0
-FirstChange Holds = (opening log now : CallLog) (older newest : List Entry) (was stand : Stand) (job new : Running) (did : Did) (path : Route)
-    → IsTree (current opening) → all_settled opening.changes ≡ true → IsTraced opening older was log → IsTraced opening newest stand now → was.jobs ≡ job ∷ []
-    → WorkLeads job did new was.dirty stand.dirty log now → job.course ≡ GoesOn → is_fresh job.work ≡ true → Holds job path log newest now
+FirstChange Holds = (opening log now : CallLog) (older newest : List Entry) (was stand : Stand)
+    (job new : Running) (did : Did) (path : Route)
+    → IsTree (current opening) → all_settled opening.changes ≡ true → IsTraced opening older was log
+    → IsTraced opening newest stand now → was.jobs ≡ job ∷ []
+    → WorkLeads job did new was.dirty stand.dirty log now → job.course ≡ GoesOn → is_fresh job.work ≡ true
+    → Holds job path log newest now
 
 pub record FirstChangeLaw : Type 0 where
-  pub names : FirstChange (λ job path log newest now. name_waits now path ≡ true → (waits_in job.work (folder_of path) ≡ true) ⊎ IsApart log (changed_folder job.work) (folder_of path))
-  pub modes : FirstChange (λ job path log newest now. (Among (named_parts newest) path → ⊥) → node_waits now path ≡ true → (waits_in job.work path ≡ true) ⊎ IsApart log (changed_folder job.work) path)
+  pub names : FirstChange (λ job path log newest now. name_waits now path ≡ true
+      → (waits_in job.work (folder_of path) ≡ true) ⊎ IsApart log (changed_folder job.work) (folder_of path))
+  pub modes : FirstChange (λ job path log newest now. (Among (named_parts newest) path → ⊥) → node_waits now
+      path ≡ true → (waits_in job.work path ≡ true) ⊎ IsApart log (changed_folder job.work) path)
 
--- a path of a job's own: one in a folder of its own, of a copy also one below its target, or the thing to which it gives a mode
+-- a path of a job's own: one in a folder of its own, of a copy also one below its target, or the thing
+-- to which it gives a mode
 abbrev pub is_own_path : Work → Route → Bool
 is_own_path (SetMode s) path = same_path path s.path
 is_own_path work path = is_own work (folder_of path)
@@ -65,16 +81,23 @@ abbrev pub IsNoMatter : Work → CallLog → Route → Type 0
 IsNoMatter (SetMode s) log path = ⊥
 IsNoMatter work log path = IsMountInDoubt log path
 
--- A job that has changed something, and whose step is that it is finished, has left no path of its own in doubt: in the folder that holds what it
--- placed, made or removed, of a deletion in each that it deleted or kept, or the thing to which it gave a mode. No name waits there, nor what
--- stands there, parts and mounts in doubt aside.
+-- A job that has changed something, and whose step is that it is finished, has left no path of its own
+-- in doubt: in the folder that holds what it placed, made or removed, of a deletion in each that it
+-- deleted or kept, or the thing to which it gave a mode. No name waits there, nor what stands there,
+-- parts and mounts in doubt aside.
 abbrev pub FinishedLaw : Type 0
-FinishedLaw = (opening now after : CallLog) (newest : List Entry) (stand : Stand) (dirty : List Route) (job new : Running) (part : Option Route) (path : Route)
-    → IsTree (current opening) → all_settled opening.changes ≡ true → IsTraced opening newest stand now → stand.jobs ≡ job ∷ [] → WorkLeads job (Ended Finished part) new stand.dirty dirty now after
+FinishedLaw = (opening now after : CallLog) (newest : List Entry) (stand : Stand) (dirty : List Route)
+    (job new : Running) (part : Option Route) (path : Route)
+    → IsTree (current opening) → all_settled opening.changes ≡ true → IsTraced opening newest stand now
+    → stand.jobs ≡ job ∷ [] → WorkLeads job (Ended Finished part) new stand.dirty dirty now after
     → has_changed job.id newest ≡ true → is_own_path job.work path ≡ true
-    → (way_waits now path ≡ false) × ((Among (named_parts newest) path → ⊥) → (IsNoMatter job.work now path → ⊥) → is_unsettled now path ≡ false)
+    → (way_waits now path ≡ false) × ((Among (named_parts newest) path → ⊥)
+    → (IsNoMatter job.work now path → ⊥) → is_unsettled now path ≡ false)
 
 -- The machine's own step is one of which such a history tells.
 abbrev pub StepLaw : Type 0
-StepLaw = (job new : Running) (did : Did) (calls : ℕ) (dirty dirty_after : List Route) (log now : CallLog) (faults faults_after : ℕ)
-    → RunStep IsUnclaimed (step_made job new did calls dirty dirty_after (Some log) (Some now) faults faults_after) → StepLeads job did (unless_ended did new) dirty dirty_after log now
+StepLaw = (job new : Running) (did : Did) (calls : ℕ) (dirty dirty_after : List Route) (log now : CallLog)
+    (faults faults_after : ℕ)
+    → RunStep IsUnclaimed
+    (step_made job new did calls dirty dirty_after (Some log) (Some now) faults faults_after)
+    → StepLeads job did (unless_ended did new) dirty dirty_after log now

@@ -1,4 +1,5 @@
--- What a crash leaves of a session, at each moment of it, inside a call too. Histories stand newest first here.
+-- What a crash leaves of a session, at each moment of it, inside a call too. Histories
+-- stand newest first here.
 use Rattle.std.specs.Prelude.{◌≡◌, ◌⊎◌, ℕ, ◌+◌, true, is_some, List, length}
 use Rattle.mc_text.specs.Routes.{Route}
 use Rattle.tree_trait.specs.declared.file_system.FileSystem.{FileSystem}
@@ -19,29 +20,35 @@ pub record IsPart (standing : List Entry) (log : CallLog) (path : Route) : Type 
   pub named : Among (named_parts standing) path
   pub stays : (is_some (find (current log) path) ≡ true) ⊎ (is_unsettled log path ≡ true)
 
--- What a crash leaves where these entries stand and the tree has this log: each path holds what the history says. One whose
--- last change isn't on the disk yet may hold what it held before that change. Parts may be missing or hold anything.
+-- What a crash leaves where these entries stand and the tree has this log: each path holds what the history
+-- says. One whose last change isn't on the disk yet may hold what it held before that change. Parts may be
+-- missing or hold anything.
 abbrev pub IsSafe : CallLog → CallLog → List Entry → CallLog → FileSystem → Type 0
 IsSafe opening now standing log image =
     (path : Route) → (IsPart standing log path → ⊥)
     → (value_at image path ≡ (replayed_tree opening now standing path).value)
-    ⊎ ((is_unsettled log path ≡ true) × (value_at image path ≡ (earlier_tree opening now standing path).value))
+    ⊎ ((is_unsettled log path ≡ true)
+    × (value_at image path ≡ (earlier_tree opening now standing path).value))
 
--- The law of what a crash leaves: at each moment of a session, over a tree on which nothing was pending at the opening, each
--- crash image is safe as of the entries that stand, or with the one that is under way.
+-- The law of what a crash leaves: at each moment of a session, over a tree on which nothing was pending at
+-- the opening, each crash image is safe as of the entries that stand, or with the one that is under way.
 abbrev pub SessionLaw : Type 0
-SessionLaw = (opening now : CallLog) (newest standing coming : List Entry) (stand : Stand) (calls : ℕ) (image : FileSystem)
+SessionLaw = (opening now : CallLog) (newest standing coming : List Entry) (stand : Stand) (calls : ℕ)
+    (image : FileSystem)
     → IsTree (current opening) → all_settled opening.changes ≡ true → IsTraced opening newest stand now
     → IsMoment newest standing coming calls → IsCrashImage now (length opening.changes + calls) image
-    → IsSafe opening now standing (log_prefix opening calls now) image ⊎ IsSafe opening now coming (log_prefix opening calls now) image
+    → IsSafe opening now standing (log_prefix opening calls now) image
+    ⊎ IsSafe opening now coming (log_prefix opening calls now) image
 
--- The log goes on from the opening, and what can be seen at its end is what the history makes of the opening, but for the parts
--- of live jobs.
+-- The log goes on from the opening, and what can be seen at its end is what the history makes of the
+-- opening, but for the parts of live jobs.
 pub record Replays (opening : CallLog) (newest : List Entry) (now : CallLog) : Type 0 where
   pub base : now.opening ≡ opening.opening
   pub tree : IsTree (current now)
-  pub shows : (path : Route) → (IsLivePart (live_jobs newest) path → ⊥) → visible_tree (current now) path ≡ replayed_tree opening now newest path
+  pub shows : (path : Route) → (IsLivePart (live_jobs newest) path → ⊥)
+      → visible_tree (current now) path ≡ replayed_tree opening now newest path
 
 abbrev pub ReplayLaw : Type 0
 ReplayLaw = (opening now : CallLog) (newest : List Entry) (stand : Stand)
-    → IsTree (current opening) → all_settled opening.changes ≡ true → IsTraced opening newest stand now → Replays opening newest now
+    → IsTree (current opening) → all_settled opening.changes ≡ true → IsTraced opening newest stand now
+    → Replays opening newest now

@@ -1,5 +1,5 @@
--- What is on the disk stays on the disk until an entry names it again; so what a finished job did stays done. Histories stand
--- newest first here.
+-- What is on the disk stays on the disk until an entry names it again; so what a finished job did stays
+-- done. Histories stand newest first here.
 use Rattle.std.specs.Prelude.{◌≡◌, ℕ, ◌+◌, Bool, true, false, ◌||◌, List, [], ◌∷◌, length, Option, Some}
 use Rattle.mc_text.specs.Routes.{Route, is_prefix, same_path}
 use Rattle.tree_trait.specs.declared.file_system.FileSystem.{FileSystem}
@@ -23,10 +23,13 @@ use Rattle.session_entries.specs.Entries.{IsMoment, calls_in}
 use Rattle.laws_sessions.specs.Safe.{IsPart}
 use Rattle.laws_sessions.specs.Traces.{IsTraced, Stand, WorkLeads}
 
--- What holds of a path where the older entries ended holds at each later moment, inside a call too, until an entry names it.
+-- What holds of a path where the older entries ended holds at each later moment, inside a call too,
+-- until an entry names it.
 abbrev pub Stays : (CallLog → Route → Bool) → (List Entry → Route → Type 0) → Type 0
-Stays waits excepted = (opening now : CallLog) (newest older standing coming : List Entry) (stand : Stand) (calls : ℕ) (path : Route)
-    → IsTree (current opening) → all_settled opening.changes ≡ true → IsTraced opening newest stand now → IsMoment newest standing coming calls
+Stays waits excepted = (opening now : CallLog) (newest older standing coming : List Entry) (stand : Stand)
+    (calls : ℕ) (path : Route)
+    → IsTree (current opening) → all_settled opening.changes ≡ true → IsTraced opening newest stand now
+    → IsMoment newest standing coming calls
     → IsUnnamedSince older path standing → IsUnnamedSince older path coming
     → waits (log_prefix opening (calls_in older) now) path ≡ false → (excepted older path → ⊥)
     → waits (log_prefix opening calls now) path ≡ false
@@ -37,22 +40,31 @@ pub record StaysLaw : Type 0 where
   -- Of a path at which no mode waits, and that was named as no part, none does.
   pub modes : Stays node_waits (λ older path. Among (named_parts older) path)
 
--- Where the older entries ended a job has changed something, and its step is that it is finished. From then on, at each
--- moment, inside a call too, each path of its own holds after any crash what the history said then, until an entry names
--- it, also where its folder goes; but for paths that were named as parts, and mounts in doubt.
+-- Where the older entries ended a job has changed something, and its step is that it is finished. From
+-- then on, at each moment, inside a call too, each path of its own holds after any crash what the
+-- history said then, until an entry names it, also where its folder goes; but for paths that were named
+-- as parts, and mounts in doubt.
 abbrev pub FinishedStaysLaw : Type 0
-FinishedStaysLaw = (opening now after : CallLog) (newest older standing coming : List Entry) (was stand : Stand) (dirty : List Route) (job new : Running) (part : Option Route) (calls : ℕ) (path : Route) (image : FileSystem)
-    → IsTree (current opening) → all_settled opening.changes ≡ true → IsTraced opening newest stand now → IsTraced opening older was (log_prefix opening (calls_in older) now)
-    → was.jobs ≡ job ∷ [] → WorkLeads job (Ended Finished part) new was.dirty dirty (log_prefix opening (calls_in older) now) after → has_changed job.id older ≡ true → is_own_path job.work path ≡ true → (Among (named_parts older) path → ⊥) → (IsNoMatter job.work (log_prefix opening (calls_in older) now) path → ⊥)
-    → IsMoment newest standing coming calls → IsUnnamedSince older path standing → IsUnnamedSince older path coming → IsCrashImage now (length opening.changes + calls) image
+FinishedStaysLaw = (opening now after : CallLog) (newest older standing coming : List Entry)
+    (was stand : Stand) (dirty : List Route) (job new : Running) (part : Option Route) (calls : ℕ)
+    (path : Route) (image : FileSystem)
+    → IsTree (current opening) → all_settled opening.changes ≡ true → IsTraced opening newest stand now
+    → IsTraced opening older was (log_prefix opening (calls_in older) now)
+    → was.jobs ≡ job ∷ [] → WorkLeads job (Ended Finished part)
+    new was.dirty dirty (log_prefix opening (calls_in older) now) after → has_changed job.id older ≡ true
+    → is_own_path job.work path ≡ true → (Among (named_parts older) path → ⊥)
+    → (IsNoMatter job.work (log_prefix opening (calls_in older) now) path → ⊥)
+    → IsMoment newest standing coming calls → IsUnnamedSince older path standing
+    → IsUnnamedSince older path coming → IsCrashImage now (length opening.changes + calls) image
     → value_at image path ≡ (replayed_tree opening now older path).value
 
--- a folder in which a job may change names: the one that holds what it places, makes or removes; where it copies or deletes, also the
--- thing itself and what lies in it; where it moves, so of both its paths
+-- a folder in which a job may change names: the one that holds what it places, makes or removes; where it
+-- copies or deletes, also the thing itself and what lies in it; where it moves, so of both its paths
 abbrev pub may_change : ItemOfJob → Route → Bool
 may_change (Copies source target) folder = same_path folder (folder_of target) || is_prefix target folder
 may_change (Moves source target) folder =
-    (same_path folder (folder_of source) || is_prefix source folder) || (same_path folder (folder_of target) || is_prefix target folder)
+    (same_path folder (folder_of source) || is_prefix source folder)
+    || (same_path folder (folder_of target) || is_prefix target folder)
 may_change (Removes path) folder = same_path folder (folder_of path) || is_prefix path folder
 may_change (Makes path) folder = same_path folder (folder_of path)
 may_change (MakesLink path text) folder = same_path folder (folder_of path)
@@ -69,8 +81,8 @@ abbrev pub IsNoMatterOf : ItemOfJob → CallLog → Route → Type 0
 IsNoMatterOf (Sets thing mode) log path = ⊥
 IsNoMatterOf item log path = IsMountInDoubt log path
 
--- This entry, after the older ones, tells of a job that it is done with a source: it is finished, or goes on with the next one. There it has changed
--- something, and it may have changed this path.
+-- This entry, after the older ones, tells of a job that it is done with a source: it is finished, or goes
+-- on with the next one. There it has changed something, and it may have changed this path.
 pub record HasFinished (e : Entry) (older : List Entry) (path : Route) : Type 0 where
   pub id : ℕ
   pub item : ItemOfJob
@@ -79,18 +91,23 @@ pub record HasFinished (e : Entry) (older : List Entry) (path : Route) : Type 0 
   pub its : live_item id (live_jobs older) ≡ Some item
   pub within : may_change_path item path ≡ true
 
--- The same in the words of the history alone: once a job that has changed something is done with a source, each
--- path of its own holds after a crash at any later moment, inside a call too, what the history said then, until an entry
--- names it; but for a part that still stood there then or whose last change wasn't on the disk, and a part that its end names. So a
--- finished copy leaves none of the parts that it made, nothing that a finished deletion removed comes back, also where its folder
--- goes later, what stays in a folder that was kept, stays, and a mode that was set is there. Mounts in doubt are excepted, too.
+-- The same in the words of the history alone: once a job that has changed something is done with a source,
+-- each path of its own holds after a crash at any later moment, inside a call too, what the history said
+-- then, until an entry names it; but for a part that still stood there then or whose last change wasn't on
+-- the disk, and a part that its end names. So a finished copy leaves none of the parts that it made,
+-- nothing that a finished deletion removed comes back, also where its folder goes later, what stays in a
+-- folder that was kept, stays, and a mode that was set is there. Mounts in doubt are excepted, too.
 abbrev pub StaysDone : CallLog → CallLog → List Entry → Type 0
 StaysDone opening now newest =
     (e : Entry) (older standing coming : List Entry) (calls : ℕ) (path : Route) (image : FileSystem)
-    → (h : HasFinished e older path) → (IsPart (e ∷ older) (log_prefix opening e.calls now) path → ⊥) → names_path e.what path ≡ false → (IsNoMatterOf h.item (log_prefix opening (calls_in older) now) path → ⊥)
-    → IsMoment newest standing coming calls → IsUnnamedSince (e ∷ older) path standing → IsUnnamedSince (e ∷ older) path coming
-    → IsCrashImage now (length opening.changes + calls) image → value_at image path ≡ (replayed_tree opening now older path).value
+    → (h : HasFinished e older path) → (IsPart (e ∷ older) (log_prefix opening e.calls now) path → ⊥) →
+    names_path e.what path ≡ false → (IsNoMatterOf h.item (log_prefix opening (calls_in older) now) path → ⊥)
+    → IsMoment newest standing coming calls → IsUnnamedSince (e ∷ older) path standing
+    → IsUnnamedSince (e ∷ older) path coming
+    → IsCrashImage now (length opening.changes + calls) image
+    → value_at image path ≡ (replayed_tree opening now older path).value
 
 abbrev pub DoneLaw : Type 0
 DoneLaw = (opening now : CallLog) (newest : List Entry) (stand : Stand)
-    → IsTree (current opening) → all_settled opening.changes ≡ true → IsTraced opening newest stand now → StaysDone opening now newest
+    → IsTree (current opening) → all_settled opening.changes ≡ true → IsTraced opening newest stand now
+    → StaysDone opening now newest

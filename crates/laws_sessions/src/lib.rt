@@ -1,5 +1,5 @@
-//! Laws of sessions: what a crash leaves of one at each moment, and what its history tells of the tree. The functions do
-//! nothing: their contracts are laws of the definitions in `specs/`.
+//! Laws of sessions: what a crash leaves of one at each moment, and what its history tells of the tree. The
+//! functions do nothing: their contracts are laws of the definitions in `specs/`.
 #![tactic(auto)]
 
 ghost use Rattle.laws_sessions.specs.Calmed.{CalmLaw};
@@ -8,8 +8,9 @@ ghost use Rattle.laws_sessions.specs.Safe.{ReplayLaw, SessionLaw};
 ghost use Rattle.laws_sessions.specs.Staying.{DoneLaw, FinishedStaysLaw, StaysLaw};
 ghost use Rattle.laws_sessions.specs.Whole.{WholeLaw};
 
-/// At each moment of a session, inside a call too, each path holds after a crash what the history says, or what it held
-/// before its last change, as long as that isn't on the disk; parts may be missing or hold anything.
+/// At each moment of a session, inside a call too, each path holds after a crash what the history
+/// says, or what it held before its last change, as long as that isn't on the disk; parts may be
+/// missing or hold anything.
 pub fn what_a_crash_leaves_of_a_session()
     ensures { SessionLaw }
 {}
@@ -19,46 +20,51 @@ pub fn what_a_session_shows()
     ensures { ReplayLaw }
 {}
 
-/// A path of which a change isn't on the disk yet lies in a dirty folder, and one whose mode isn't is itself dirty.
+/// A path of which a change isn't on the disk yet lies in a dirty folder, and one whose
+/// mode isn't is itself dirty.
 pub fn where_doubt_lies()
     ensures { OwedLaw }
 {}
 
-/// Once a job has made its first change, each change that isn't on the disk yet is in a folder of its own, on another mount, or in a folder
-/// that was removed; and so is a mode, of the path itself.
+/// Once a job has made its first change, each change that isn't on the disk yet is in a folder of its own,
+/// on another mount, or in a folder that was removed; and so is a mode, of the path itself.
 pub fn what_a_first_change_leaves_in_doubt()
     ensures { FirstChangeLaw }
 {}
 
-/// The same in the words of the history alone: where a report of a job's first change for one of its sources stands, nothing on its mount is in doubt
-/// but what that report names.
+/// The same in the words of the history alone: where a report of a job's first change for one of its
+/// sources stands, nothing on its mount is in doubt but what that report names.
 pub fn what_a_first_change_calms()
     ensures { CalmLaw }
 {}
 
-/// A job that may report that it is finished, and has changed something, has left nothing in a folder of its own that isn't on the disk.
+/// A job that may report that it is finished, and has changed something, has left nothing in a folder of
+/// its own that isn't on the disk.
 pub fn what_a_finished_job_leaves()
     ensures { FinishedLaw }
 {}
 
-/// A path of which no change waits for a sync waits for none at any later moment, inside a call too, until an entry names it; nor does a mode.
+/// A path of which no change waits for a sync waits for none at any later moment, inside a call too, until
+/// an entry names it; nor does a mode.
 pub fn what_stays_on_the_disk()
     ensures { StaysLaw }
 {}
 
-/// What a job that is finished did in its folders stays done: no crash at a later moment brings back what a path held before, until an
-/// entry names that path.
+/// What a job that is finished did in its folders stays done: no crash at a later moment brings back what a
+/// path held before, until an entry names that path.
 pub fn what_a_finished_job_did_stays()
     ensures { FinishedStaysLaw }
 {}
 
-/// The same in the words of the history alone, once the job is done with a source: it goes on with the next one, or has reported that it is finished.
+/// The same in the words of the history alone, once the job is done with a source: it goes on with the next
+/// one, or has reported that it is finished.
 pub fn what_was_finished_stays()
     ensures { DoneLaw }
 {}
 
-/// In one and the same crash image a thing that is moved is whole at its source or at its target, a folder with all that lies in it, until its job takes up another
-/// source or the next job begins; what stays then, the law before this one says.
+/// In one and the same crash image a thing that is moved is whole at its source or at its target, a folder
+/// with all that lies in it, until its job takes up another source or the next job begins; what stays then,
+/// the law before this one says.
 pub fn what_a_crash_leaves_of_a_moved_thing()
     ensures { WholeLaw }
 {}

@@ -1,9 +1,12 @@
--- The path that a word names, below the folder in which the program was started (POSIX.1-2017, 4.13 Pathname Resolution; that
--- dot-dot takes the name before it away, with no look at the tree, is as in `cd`). Dot is 46.
-use Rattle.std.specs.Prelude.{ℕ, Bool, not, ◌||◌, nat_lt, is_none, is_some, if◌then◌else◌, List, [], ◌∷◌, length, filter, Option, Some, None, option_map}
+-- The path that a word names, below the folder in which the program was started (POSIX.1-2017,
+-- 4.13 Pathname Resolution; that dot-dot takes the name before it away, with no look at the tree,
+-- is as in `cd`). Dot is 46.
+use Rattle.std.specs.Prelude.{ℕ, Bool, not, ◌||◌, nat_lt, is_none, is_some, if◌then◌else◌}
+use Rattle.std.specs.Prelude.{List, [], ◌∷◌, length, filter, Option, Some, None, option_map}
 use Rattle.std.specs.Str.{bytes_eq}
 use Rattle.mc_text.specs.Names.{name_fault}
-use Rattle.mc_text.specs.Routes.{Route, spelled_route, path_text, components_of, is_empty, begins_with_slash, path_fault, route_of}
+use Rattle.mc_text.specs.Routes.{Route, spelled_route, path_text, components_of}
+use Rattle.mc_text.specs.Routes.{is_empty, begins_with_slash, path_fault, route_of}
 use Rattle.main_words.specs.declared.folders.StartPath.{StartPath}
 
 -- the folder in which the program was started; the root where its text is no absolute path
@@ -22,7 +25,8 @@ above (name ∷ folder) = folder
 
 -- a folder can't have this entry: it is no name, or the path would be too long
 abbrev pub is_refused_in : Route → List ℕ → Bool
-is_refused_in folder component = is_some (name_fault component) || nat_lt 4096 (length (spelled_route (component ∷ folder)))
+is_refused_in folder component =
+    is_some (name_fault component) || nat_lt 4096 (length (spelled_route (component ∷ folder)))
 
 -- where a component leads: dot-dot to the folder above, any other to the folder's entry, if there can be one
 abbrev pub step_below : Route → List ℕ → Option Route
@@ -44,7 +48,8 @@ is_passed component = is_empty component || bytes_eq component (46 ∷ [])
 abbrev pub steps_of : List ℕ → List (List ℕ)
 steps_of word = filter (λ component. not (is_passed component)) (components_of word)
 
--- a word begins at the root where a slash stands first, and else in the folder in which the program was started
+-- a word begins at the root where a slash stands first, and else in the folder in
+-- which the program was started
 abbrev pub begins_in : Route → List ℕ → Route
 begins_in started word = if begins_with_slash word then [] else started
 
@@ -60,7 +65,8 @@ typed_path word path = record { typed = word; path = path }
 abbrev pub path_named : Route → List ℕ → Option StartPath
 path_named started word = option_map (typed_path word) (folder_named started word)
 
--- the folder of a panel: the one that its word names, or without a word the one in which the program was started
+-- the folder of a panel: the one that its word names, or without a word the one in
+-- which the program was started
 abbrev pub panel_folder : Route → Option (List ℕ) → Option StartPath
 panel_folder started None = Some (typed_path (path_text started) started)
 panel_folder started (Some word) = path_named started word

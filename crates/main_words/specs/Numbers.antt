@@ -1,5 +1,6 @@
 -- Numbers in words and in the surroundings: decimal digits alone. 0 is 48.
-use Rattle.std.specs.Prelude.{ℕ, ◌+◌, ◌-◌, ◌*◌, ◌^◌, Bool, not, ◌&&◌, nat_lt, if◌then◌else◌, List, [], ◌∷◌, length, Option, Some, None}
+use Rattle.std.specs.Prelude.{ℕ, ◌+◌, ◌-◌, ◌*◌, ◌^◌, Bool, not, ◌&&◌, nat_lt}
+use Rattle.std.specs.Prelude.{if◌then◌else◌, List, [], ◌∷◌, length, Option, Some, None}
 use Rattle.std.specs.Str.{all_ascii_digits}
 use Rattle.mc_text.specs.Routes.{is_empty}
 
@@ -14,4 +15,5 @@ are_digits most text = all_ascii_digits text && (not (is_empty text) && not (nat
 
 -- the number of 32 bits that a text of 1 to so many decimal digits spells
 abbrev pub number_of : ℕ → List ℕ → Option ℕ
-number_of most text = if are_digits most text && nat_lt (decimal_from 0 text) (2 ^ 32) then Some (decimal_from 0 text) else None
+number_of most text =
+    if are_digits most text && nat_lt (decimal_from 0 text) (2 ^ 32) then Some (decimal_from 0 text) else None

@@ -2,7 +2,8 @@
 use Rattle.std.specs.Prelude.{◌≡◌, ℕ, Bool, true, false, List, codes, Option, Some, None, option_map}
 use Rattle.std.specs.Borrow.{Bor}
 use Rattle.std.specs.Str.{bytes_eq}
-use Rattle.clap.specs.Words.{App, Row, Rule, Text, fault_of, first_of, matches_of, new_app, new_rule, with_rule}
+use Rattle.clap.specs.Words.{App, Row, Rule, Text, fault_of, first_of}
+use Rattle.clap.specs.Words.{matches_of, new_app, new_rule, with_rule}
 use Rattle.clap.specs.Walk.{is_empty}
 use Rattle.clap.specs.Simple.{on_top}
 use Rattle.clap.specs.declared.builder.action.ArgAction.TheVariants.{Set, SetTrue}
@@ -25,17 +26,22 @@ drill_rule = record (new_rule (codes "drill")) { long = Some (codes "drill"); ac
 
 -- a command over the words after the program's name, without flags of clap's own
 abbrev pub bare_app : App
-bare_app = on_top (λ s. record s { no_binary_name = true; disable_help_flag = true; disable_version_flag = true }) (new_app (codes "mc"))
+bare_app =
+    on_top (λ s. record s { no_binary_name = true; disable_help_flag = true; disable_version_flag = true })
+    (new_app (codes "mc"))
 
 -- `-v FILE`, `-e FILE`, `-P FILE`, `--drill N`
 abbrev pub with_options : App → App
 with_options a =
-    with_rule (with_rule (with_rule (with_rule a (option_rule (codes "view") 118)) (option_rule (codes "edit") 101))
+    with_rule
+    (with_rule (with_rule (with_rule a (option_rule (codes "view") 118)) (option_rule (codes "edit") 101))
     (option_rule (codes "place") 80)) drill_rule
 
 -- `-b`, `-V`, `-h`
 abbrev pub with_flags : App → App
-with_flags a = with_rule (with_rule (with_rule a (flag_rule (codes "black") 98)) (flag_rule (codes "version") 86)) (flag_rule (codes "help") 104)
+with_flags a =
+    with_rule (with_rule (with_rule a (flag_rule (codes "black") 98)) (flag_rule (codes "version") 86))
+    (flag_rule (codes "help") 104)
 
 -- `DIR1` and `DIR2`
 abbrev pub with_folders : App → App

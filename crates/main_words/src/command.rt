@@ -1,7 +1,9 @@
 //! The words of the command line, read by one simple command of `clap`.
 ghost use Rattle.std.specs.Prelude.{◌≡◌, ℕ, List, Err, IfOk, codes, true, false};
 ghost use Rattle.clap.specs.Words.{app_of, rule_of, first_value, found_of};
-ghost use Rattle.main_words.specs.Profile.{option_rule, flag_rule, place_rule, drill_rule, bare_app, with_options, with_flags, with_folders, mc_app, are_read, value_in, has_flag, is_true_text, IsValueOf};
+ghost use Rattle.main_words.specs.Profile.{option_rule, flag_rule, place_rule, drill_rule, bare_app};
+ghost use Rattle.main_words.specs.Profile.{with_options, with_flags, with_folders, mc_app, are_read};
+ghost use Rattle.main_words.specs.Profile.{value_in, has_flag, is_true_text, IsValueOf};
 
 use crate::words::WordsError;
 use clap::error::ErrorKind;
@@ -52,7 +54,8 @@ pub fn given_by<'a>(alloc: Global, words: &'a [Text]) -> Result<Given<'a>, Words
 fn parse<'a>(alloc: Global, words: &'a [Text]) -> Result<ArgMatches<'a>, WordsError>
     ensures read { IfOk result (λ _. are_read words.entry.now ≡ true) }
     ensures usage { result ≡ Err WordsError.Usage → are_read words.entry.now ≡ false }
-    ensures rows { IfOk result (λ matches. (id : List ℕ) → first_value (found_of matches) id ≡ value_in words.entry.now id) }
+    ensures rows { IfOk result
+        (λ matches. (id : List ℕ) → first_value (found_of matches) id ≡ value_in words.entry.now id) }
 {
     let Ok(command) = mc_command(alloc) else {
         return Err(WordsError::Memory);

@@ -1,19 +1,24 @@
 //! The paths that words name, below the folder in which the program was started.
 ghost use Rattle.std.specs.Prelude.{◌≡◌, ◌∷◌, true, false, Err, None, Some, IfOk, option_map};
-ghost use Rattle.main_words.specs.Folders.{above as above_route, begins_in, folder_named as route_named, home_in, is_passed, is_refused_in, panel_folder as folder_of_panel, path_named, started_in, step_below};
+ghost use Rattle.main_words.specs.Folders.{above as above_route, begins_in};
+ghost use Rattle.main_words.specs.Folders.{folder_named as route_named, home_in, is_passed};
+ghost use Rattle.main_words.specs.Folders.{is_refused_in, panel_folder as folder_of_panel};
+ghost use Rattle.main_words.specs.Folders.{path_named, started_in, step_below};
 
 use crate::words::WordsError;
 use mc_text::{Name, NameError, NoMemory, Path, PathError, Text};
 use std::alloc::Global;
 
-/// What a session starts with: the folder of a panel, or a file that is viewed, as it was typed, and its path.
+/// What a session starts with: the folder of a panel, or a file that is viewed, as it
+/// was typed, and its path.
 #[derive(Debug, Drop)]
 pub struct StartPath {
     pub typed: Text,
     pub path: Path,
 }
 
-/// The folder in which the program was started, by its text in the surroundings; the root where that is no absolute path.
+/// The folder in which the program was started, by its text in the surroundings; the root where
+/// that is no absolute path.
 pub fn started_folder(alloc: Global, text: &str) -> Result<Path, NoMemory>
     ensures { IfOk result (λ folder. folder ≡ started_in text.now) }
 {
@@ -51,8 +56,10 @@ pub fn panel_folder(
     started: &Path,
     word: Option<&str>,
 ) -> Result<StartPath, WordsError>
-    ensures read { IfOk result (λ folder. folder_of_panel started.now (option_map (λ text. text.now) word.entry) ≡ Some folder) }
-    ensures usage { result ≡ Err WordsError.Usage → folder_of_panel started.now (option_map (λ text. text.now) word.entry) ≡ None }
+    ensures read { IfOk result (λ folder.
+        folder_of_panel started.now (option_map (λ text. text.now) word.entry) ≡ Some folder) }
+    ensures usage { result ≡ Err WordsError.Usage
+        → folder_of_panel started.now (option_map (λ text. text.now) word.entry) ≡ None }
 {
     match word {
         Some(word) => named_path(alloc, started, word),
@@ -74,8 +81,8 @@ pub fn named_path(alloc: Global, started: &Path, word: &str) -> Result<StartPath
     Ok(StartPath { typed, path })
 }
 
-/// Where a word leads: from the root where a slash stands first, and else from `started`. Dot and dot-dot are read
-/// without a look at the tree. Each component copies the path so far.
+/// Where a word leads: from the root where a slash stands first, and else from `started`. Dot and dot-dot
+/// are read without a look at the tree. Each component copies the path so far.
 fn folder_named(alloc: Global, started: &Path, word: &str) -> Result<Path, WordsError>
     ensures read { IfOk result (λ folder. route_named started.now word.now ≡ Some folder) }
     ensures usage { result ≡ Err WordsError.Usage → route_named started.now word.now ≡ None }

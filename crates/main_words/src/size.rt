@@ -25,8 +25,8 @@ impl Model for Size {
 }
 
 impl Size {
-    /// The size that LINES and COLUMNS of the surroundings say: 24 by 80 where either is missing, can't be read, or is too small
-    /// or too large.
+    /// The size that LINES and COLUMNS of the surroundings say: 24 by 80 where either is missing, can't be
+    /// read, or is too small or too large.
     pub fn read(lines: &Option<Text>, columns: &Option<Text>) -> Size
         ensures { result ≡ size_said lines.now columns.now }
     {

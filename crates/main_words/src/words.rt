@@ -34,6 +34,7 @@ pub enum Words {
     Panels { left: StartPath, right: StartPath },
     /// A session in which this file is viewed, and nothing else.
     View(StartPath),
-    /// What is in the profile and isn't built yet: the editor, a file that is told the last folder, or the drill.
+    /// What is in the profile and isn't built yet: the editor, a file that is told the
+    /// last folder, or the drill.
     NotBuilt,
 }

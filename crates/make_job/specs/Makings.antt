@@ -1,5 +1,6 @@
--- The order in which a thing is made, a folder or a link: what a step may report where the making stands, and where it stands then; and
--- what a report says of the tree's calls. It is made, the folder that holds it is synced, and only then is it finished.
+-- The order in which a thing is made, a folder or a link: what a step may report where the making stands,
+-- and where it stands then; and what a report says of the tree's calls. It is made, the folder that holds
+-- it is synced, and only then is it finished.
 use Rattle.std.specs.Prelude.{◌≡◌, ◌≢◌, Bool, true, false, [], ◌∷◌, Option, Some, None, Result, Ok, Err}
 use Rattle.mc_text.specs.Routes.{Route}
 use Rattle.tree_trait.specs.Calls.{Call, SyncFolder}
@@ -10,7 +11,9 @@ use Rattle.job_reports.specs.declared.report.Trouble.{Trouble}
 use Rattle.job_reports.specs.declared.report.Ending.{Ending}
 use Rattle.job_reports.specs.declared.report.Ending.TheVariants.{Finished}
 use Rattle.job_reports.specs.declared.report.Did.{Did}
-use Rattle.job_reports.specs.declared.report.Did.TheVariants.{Began, Chunk, Placed, Removed, Made, Set, Kept, Skipped, Cleaned, Barrier, Asked, Merges, Moved, Troubled, Ended}
+use Rattle.job_reports.specs.declared.report.Did.TheVariants.{Began, Chunk, Placed, Removed, Made}
+use Rattle.job_reports.specs.declared.report.Did.TheVariants.{Set, Kept, Skipped, Cleaned, Barrier}
+use Rattle.job_reports.specs.declared.report.Did.TheVariants.{Asked, Merges, Moved, Troubled, Ended}
 use Rattle.job_reports.specs.Stops.{sync_answer, cause_of, trouble_at}
 use Rattle.make_job.specs.declared.making.MakingStage.{MakingStage}
 use Rattle.make_job.specs.declared.making.MakingStage.TheVariants.{Make, Sync, Finish, PassedOver}
@@ -127,12 +130,13 @@ abbrev pub Answers : CallLog → Option Call → Result (Unit {0}) TreeError →
 Answers log None answer after = after ≡ Some log
 Answers log (Some call) answer after = Performs log call answer after
 
--- What a step says of the tree's calls. A making and a sync were done; a trouble is the refusal of the next call, with the
--- cause that the tree gives; an end makes no call.
+-- What a step says of the tree's calls. A making and a sync were done; a trouble is the refusal of the next
+-- call, with the cause that the tree gives; an end makes no call.
 abbrev pub MakingCalls : Making → Did → CallLog → Option CallLog → Type 0
 MakingCalls m (Made path) log after = Performs {A = Unit {0}} log (making_call m.thing path) (Ok tt) after
 MakingCalls m Barrier log after = Answers log (sync_of m.path) (Ok tt) after
-MakingCalls m (Troubled trouble) log after = (e : TreeError) × (trouble.cause ≡ cause_of e) × Answers log (call_of m.thing m.stage m.path) (Err e) after
+MakingCalls m (Troubled trouble) log after = (e : TreeError) × (trouble.cause ≡ cause_of e)
+    × Answers log (call_of m.thing m.stage m.path) (Err e) after
 MakingCalls m (Ended ending part) log after = after ≡ Some log
 MakingCalls m (Began part) log after = ⊥
 MakingCalls m (Chunk count) log after = ⊥
@@ -148,7 +152,8 @@ MakingCalls m (Cleaned part) log after = ⊥
 
 -- What a last step says of the tree's calls: the sync was tried, whatever it answered.
 abbrev pub LastMakingCalls : Making → Did → CallLog → Option CallLog → Type 0
-LastMakingCalls m Barrier log after = (answer : Result (Unit {0}) TreeError) × Answers log (sync_of m.path) answer after
+LastMakingCalls m Barrier log after =
+    (answer : Result (Unit {0}) TreeError) × Answers log (sync_of m.path) answer after
 LastMakingCalls m (Ended ending part) log after = after ≡ Some log
 LastMakingCalls m (Began part) log after = ⊥
 LastMakingCalls m (Chunk count) log after = ⊥

@@ -1,5 +1,5 @@
-//! The making of a thing, with the dirty folders: the one that holds it joins them before it is made, when there may still be no
-//! memory, and leaves them with its sync.
+//! The making of a thing, with the dirty folders: the one that holds it joins them before it is made, when
+//! there may still be no memory, and leaves them with its sync.
 ghost use Rattle.std.specs.Prelude.{◌≡◌};
 ghost use Rattle.job_reports.specs.Paths.{folder_of};
 ghost use Rattle.make_job.specs.Makings.{is_dirty};
@@ -21,7 +21,8 @@ pub fn step_making<T: Tree>(
 ) -> StepResult
     ensures steps { MakingStep making.old making.new result.did result.calls (T.contents tree.old)
         (T.contents tree.new) (T.fault_count tree.old) (T.fault_count tree.new) }
-    ensures leaves { dirty.new ≡ with_change (is_dirty making.old.stage) (is_dirty making.new.stage) (folder_of making.old.path) dirty.old }
+    ensures leaves { dirty.new ≡ with_change (is_dirty making.old.stage) (is_dirty making.new.stage)
+        (folder_of making.old.path) dirty.old }
 {
     let Ok(readied) = dirty.ready(alloc, making.folder(), making.is_fresh(), making.is_dirty())
     else {
@@ -40,7 +41,8 @@ pub fn wind_up_making<T: Tree>(
     ending: Ending,
     dirty: &mut Dirty,
 ) -> LastStepResult
-    ensures winds { LastMakingStep ending making.old making.new result.did result.calls result.left (T.contents tree.old)
+    ensures winds { LastMakingStep ending making.old making.new result.did result.calls result.left
+        (T.contents tree.old)
         (T.contents tree.new) (T.fault_count tree.old) (T.fault_count tree.new) }
     ensures tries { dirty.new ≡ after_try result.did result.left (folder_of making.old.path) dirty.old }
 {

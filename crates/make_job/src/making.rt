@@ -1,5 +1,6 @@
-//! The making of one new thing, an empty folder or a link, a call of the tree at each step: it is made, then the folder that holds
-//! it is synced, and only then is it finished, so that a thing whose making is finished is on the disk.
+//! The making of one new thing, an empty folder or a link, a call of the tree at each step: it is made,
+//! then the folder that holds it is synced, and only then is it finished, so that a thing whose making is
+//! finished is on the disk.
 ghost use Rattle.std.specs.Prelude.{◌≡◌, Some};
 ghost use Rattle.mc_text.specs.Routes.{parent_of};
 ghost use Rattle.job_reports.specs.Paths.{folder_of};
@@ -20,7 +21,8 @@ use tree_trait::Tree;
 pub enum MakingStage {
     /// The thing is to be made.
     Make,
-    /// The thing stands. The folder that holds it is synced before the end, so that no crash takes it away after the end.
+    /// The thing stands. The folder that holds it is synced before the end, so that no crash
+    /// takes it away after the end.
     Sync,
     /// The thing stands for good. Nothing is left to be done.
     Finish,
@@ -95,7 +97,8 @@ impl ThingMaking {
         tree: &mut T,
         ending: Ending,
     ) -> LastStepResult
-        ensures { LastMakingStep ending self.old self.new result.did result.calls result.left (T.contents tree.old)
+        ensures { LastMakingStep ending self.old self.new result.did result.calls result.left
+            (T.contents tree.old)
             (T.contents tree.new) (T.fault_count tree.old) (T.fault_count tree.new) }
     {
         match self.stage {
@@ -129,7 +132,8 @@ impl ThingMaking {
         &self.folder
     }
 
-    /// Whether the folder that holds it has a name more, and no sync has brought that onto the disk, as far as this making goes.
+    /// Whether the folder that holds it has a name more, and no sync has brought that onto the disk, as
+    /// far as this making goes.
     pub fn is_dirty(&self) -> bool
         ensures { result ≡ is_dirty self.now.stage }
     {
@@ -200,7 +204,8 @@ impl ThingMaking {
     /// The one try of a job that is to end.
     fn try_sync<T: Tree>(&mut self, alloc: Global, tree: &mut T, ending: Ending) -> LastStepResult
         requires stage { self.old.stage ≡ MakingStage.Sync }
-        ensures { LastMakingStep ending self.old self.new result.did result.calls result.left (T.contents tree.old)
+        ensures { LastMakingStep ending self.old self.new result.did result.calls result.left
+            (T.contents tree.old)
             (T.contents tree.new) (T.fault_count tree.old) (T.fault_count tree.new) }
     {
         let _ending = ending;

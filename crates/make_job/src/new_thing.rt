@@ -31,7 +31,8 @@ impl NewThing {
         path: &Path,
     ) -> Result<(), TreeError>
         requires makable { IsMakable self.now }
-        ensures answer { IfKnown (T.contents tree.old) (λ log. Performs log (making_call self.now path.now) result (T.contents tree.new)) }
+        ensures answer { IfKnown (T.contents tree.old) (λ log.
+            Performs log (making_call self.now path.now) result (T.contents tree.new)) }
         ensures stays_unknown { T.contents tree.old ≡ None → T.contents tree.new ≡ None }
         ensures cause { HasCause TreeError.Fault (T.fault_count tree.old) (T.fault_count tree.new) result }
     {

@@ -69,7 +69,8 @@ fn run(rt: HostRuntime, words: &[Text], env: &Env) -> u8 {
     outcome.status
 }
 
-/// Makes the terminal ready for a session, and asks it for its size. Where a text is printed alone it isn't touched.
+/// Makes the terminal ready for a session, and asks it for its size. Where a text is
+/// printed alone it isn't touched.
 fn enter(rt: &HostRuntime, words: &[Text], env: &mut Env) -> TerminalChange {
     if prints_alone(rt.alloc(), words, env) {
         return TerminalChange::Untouched;

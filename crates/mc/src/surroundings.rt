@@ -1,4 +1,5 @@
-//! What the program finds around it: its words, the folder that it was started in, the environment, the terminal's size.
+//! What the program finds around it: its words, the folder that it was started in, the
+//! environment, the terminal's size.
 use mc_main::Env;
 use mc_text::{NoMemory, Text};
 use std::env::VarError;
@@ -47,7 +48,8 @@ pub fn surroundings(rt: &HostRuntime) -> Result<Env, NoMemory> {
     })
 }
 
-/// The folder that the program was started in; an empty text where the system doesn't say it, or says no text.
+/// The folder that the program was started in; an empty text where the system doesn't
+/// say it, or says no text.
 fn folder(rt: &HostRuntime) -> Result<Text, NoMemory> {
     match std::env::current_dir(rt) {
         Ok(folder) => Text::from_str(rt.alloc(), folder.to_str().unwrap_or("")),

@@ -44,7 +44,8 @@ pub fn clear_screen(rt: &HostRuntime) {
     let _done = print!(rt; "\x1b[0m\x1b[2J\x1b[1;1H");
 }
 
-/// After a printed line: a raw terminal doesn't go back to the first column by itself. What isn't a terminal gets nothing.
+/// After a printed line: a raw terminal doesn't go back to the first column by itself. What isn't
+/// a terminal gets nothing.
 pub fn begin_line(rt: &HostRuntime) {
     let _done = return_on_terminal(rt);
 }

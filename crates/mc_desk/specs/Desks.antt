@@ -1,5 +1,7 @@
 -- What a desk keeps: its history is a session over its tree, and the rest of it is what the history says.
-use Rattle.std.specs.Prelude.{◌≡◌, ◌⊎◌, ℕ, ◌+◌, ◌*◌, ◌≤◌, Bool, true, false, not, ◌||◌, ◌&&◌, is_some, if◌then◌else◌, List, [], ◌∷◌, ◌++◌, length, take, slice_get, Option, Some, None, Result, Ok, Err}
+use Rattle.std.specs.Prelude.{◌≡◌, ◌⊎◌, ℕ, ◌+◌, ◌*◌, ◌≤◌, Bool, true, false, not, ◌||◌}
+use Rattle.std.specs.Prelude.{◌&&◌, is_some, if◌then◌else◌, List, [], ◌∷◌, ◌++◌, length}
+use Rattle.std.specs.Prelude.{take, slice_get, Option, Some, None, Result, Ok, Err}
 use Rattle.std.specs.Option.{option_map}
 use Rattle.mc_text.specs.Routes.{Route}
 use Rattle.tree_trait.specs.Change.{CallLog}
@@ -40,8 +42,9 @@ use Rattle.mc_desk.specs.Standings.{tally_of}
 use Rattle.job_sources.specs.Turning.{rank_left}
 use Rattle.mc_desk.specs.declared.standing.Standing.{Standing}
 
--- what can be seen of a desk: its entries, the newest first, and how many more find room; the screen; the live job, and
--- the sources that it is yet to take up; the dirty folders; what the history came to; how many bytes were taken, and those since the last key; whether the end was asked for; and
+-- what can be seen of a desk: its entries, the newest first, and how many more find room; the screen;
+-- the live job, and the sources that it is yet to take up; the dirty folders; what the history came
+-- to; how many bytes were taken, and those since the last key; whether the end was asked for; and
 -- what was put to the terminal
 pub record Seen : Type 0 where
   pub newest : List Entry
@@ -93,12 +96,14 @@ stand_of desk = stand_with desk.job desk.dirty
 
 -- what the session of a desk has come to, over a tree that holds this
 abbrev pub state_of : Option CallLog → Seen → SessionState
-state_of contents desk = record { screen = noted_screen desk; stand = stand_of desk; contents = contents; put = desk.out.put }
+state_of contents desk =
+    record { screen = noted_screen desk; stand = stand_of desk; contents = contents; put = desk.out.put }
 
--- What is written down is a session in the folders in which it began, over the tree, which was opened with the one contents, and
--- so many faults, and has the other now; it has come to the live job and the dirty folders; and the rest of the desk is what the
--- history says.
-pub record IsWritten (start : Option Start) (opening contents : Option CallLog) (faults : ℕ) (desk : Seen) : Type 0 where
+-- What is written down is a session in the folders in which it began, over the tree, which was opened with
+-- the one contents, and so many faults, and has the other now; it has come to the live job and the dirty
+-- folders; and the rest of the desk is what the history says.
+pub record IsWritten (start : Option Start) (opening contents : Option CallLog) (faults : ℕ)
+    (desk : Seen) : Type 0 where
   pub session : IsSession start opening faults desk.newest (state_of contents desk)
   pub tally : desk.tally ≡ tally desk.newest
   pub told : desk.tally.job ≡ option_map told desk.job
@@ -113,18 +118,22 @@ rank_of desk = rank_left desk.dirty desk.job desk.later
 abbrev pub frame_now : Seen → CellGrid
 frame_now desk = frame_of desk.screen (rows_of desk.job (waits_told desk.newest))
 
--- What the terminal of a desk shows, where no drawing was cut short and the desk isn't closed: something was drawn, if anything
--- was written down; and once nothing is to be looked at the frame of the desk, and then its job can't be stepped.
+-- What the terminal of a desk shows, where no drawing was cut short and the desk isn't closed: something
+-- was drawn, if anything was written down; and once nothing is to be looked at the frame of the desk, and
+-- then its job can't be stepped.
 pub record IsShown (desk : Seen) : Type 0 where
   pub size : FitsScreen desk.out.display.grid desk.screen
-  pub drawn : desk.tally.closed ≡ false → desk.out.put.is_cut ≡ false → none_before desk.newest ≡ false → desk.out.display.has_drawn ≡ true
-  pub current : desk.tally.closed ≡ false → desk.out.put.is_cut ≡ false → desk.tally.due ≡ None → desk.out.display.grid ≡ frame_now desk
+  pub drawn : desk.tally.closed ≡ false → desk.out.put.is_cut ≡ false → none_before desk.newest ≡ false
+      → desk.out.display.has_drawn ≡ true
+  pub current : desk.tally.closed ≡ false → desk.out.put.is_cut ≡ false → desk.tally.due ≡ None
+      → desk.out.display.grid ≡ frame_now desk
   pub still : desk.tally.closed ≡ false → desk.tally.due ≡ None → can_step desk.tally.job ≡ false
 
--- What holds of a desk between two calls: besides, nothing that was asked for waits to be carried out but the end, a desk that
--- lost a key is closed, where the end was asked for or the desk is closed nothing is to be looked at, the room is there, and the
--- terminal shows the desk.
-pub record IsDesk (start : Option Start) (opening contents : Option CallLog) (faults : ℕ) (desk : Seen) : Type 0 where
+-- What holds of a desk between two calls: besides, nothing that was asked for waits to be carried out but
+-- the end, a desk that lost a key is closed, where the end was asked for or the desk is closed nothing is
+-- to be looked at, the room is there, and the terminal shows the desk.
+pub record IsDesk (start : Option Start) (opening contents : Option CallLog) (faults : ℕ)
+    (desk : Seen) : Type 0 where
   pub written : IsWritten start opening contents faults desk
   pub settled : desk.screen.planned ≡ None
   pub asked : desk.quit ≡ true → desk.tally.due ≡ None
@@ -151,7 +160,8 @@ pub record RanNothing (runs runs_now : Option (List Command)) (faults faults_now
   pub failed : faults_now ≡ faults
 
 -- what a session keeps of its tree and its spawner
-pub record KeepsDesk (start : Option Start) (opening contents : Option CallLog) (seen : Seen) (faults faults_now : ℕ)
+pub record KeepsDesk (start : Option Start) (opening contents : Option CallLog) (seen : Seen)
+    (faults faults_now : ℕ)
     (runs runs_now : Option (List Command)) (spawner_opening spawner_now : ℕ) : Type 0 where
   pub desk : IsDesk start opening contents faults seen
   pub counted : faults_in faults seen.newest ≤ faults_now
@@ -171,21 +181,24 @@ pub record LacksSecond (bytes : List ℕ) (newest : List Entry) : Type 0 where
   pub completed : (decoded_keys bytes).keys ≡ (decoded_keys prefix).keys ++ first ∷ second ∷ []
   pub has : keys_in newest ≡ (decoded_keys prefix).keys ++ first ∷ []
 
--- Of what the keyboard gives so many bytes were taken, a prefix of it, and their keys are those of the history; in a closed
--- session the history may lack the second of two that the last byte completed.
+-- Of what the keyboard gives so many bytes were taken, a prefix of it, and their keys are those of the
+-- history; in a closed session the history may lack the second of two that the last byte completed.
 pub record Reads (bytes : List ℕ) (taken : ℕ) (closed : Bool) (newest : List Entry) : Type 0 where
   pub some : taken ≤ length bytes
-  pub keys : ((decoded_keys (take taken bytes)).keys ≡ keys_in newest) ⊎ ((closed ≡ true) × LacksSecond (take taken bytes) newest)
+  pub keys : ((decoded_keys (take taken bytes)).keys ≡ keys_in newest)
+      ⊎ ((closed ≡ true) × LacksSecond (take taken bytes) newest)
 
 -- the same of a desk, with the bytes since the last key
 pub record TookOf (bytes : List ℕ) (desk : Seen) : Type 0 where
   pub some : desk.taken ≤ length bytes
-  pub keys : HasTaken (take desk.taken bytes) desk ⊎ ((desk.tally.closed ≡ true) × LacksSecond (take desk.taken bytes) desk.newest)
+  pub keys : HasTaken (take desk.taken bytes) desk
+      ⊎ ((desk.tally.closed ≡ true) × LacksSecond (take desk.taken bytes) desk.newest)
 
 abbrev pub IsFed : Option (List ℕ) → Seen → Type 0
 IsFed stream desk = IfKnown stream (λ bytes. TookOf bytes desk)
 
--- what a desk keeps besides its session: the keys are those of the bytes that it took, and no drawing was cut short while it is open
+-- what a desk keeps besides its session: the keys are those of the bytes that it took, and no drawing was
+-- cut short while it is open
 pub record KeepsStream (stream : Option (List ℕ)) (desk : Seen) : Type 0 where
   pub fed : IsFed stream desk
   pub uncut : IsUncut desk
@@ -209,9 +222,11 @@ is_over desk = desk.tally.closed || desk.quit
 abbrev pub seeks : Seen → Bool
 seeks desk = not (is_over desk) && is_seeking desk.screen
 
--- An error closes the desk, unless memory ran out and all was left as it was; there may be more room for entries then.
+-- An error closes the desk, unless memory ran out and all was left as it was; there may be
+-- more room for entries then.
 abbrev pub FailsClosed : DeskError → Seen → Seen → Type 0
-FailsClosed answer old new = (new.tally.closed ≡ true) ⊎ ((answer ≡ error.Memory) × (record new { spare = old.spare } ≡ old))
+FailsClosed answer old new =
+    (new.tally.closed ≡ true) ⊎ ((answer ≡ error.Memory) × (record new { spare = old.spare } ≡ old))
 
 -- nothing was taken, and the session is not over
 pub record IsFresh (desk : Seen) : Type 0 where
@@ -252,14 +267,16 @@ pub record RemovesDirty (newest : List Entry) (dirty dirty_after : List Route) :
 pub record JoinsBoth (newest : List Entry) (dirty dirty_after : List Route) : Type 0 where
   pub pair : Pair
   pub moved : HasMoved newest pair
-  pub join : dirty_after ≡ joined_folders (folder_of pair.source) (joined_folders (folder_of pair.target) dirty)
+  pub join : dirty_after
+      ≡ joined_folders (folder_of pair.source) (joined_folders (folder_of pair.target) dirty)
 
--- What a step makes of the dirty folders: one of the live job's own may join them, or both where something was moved, and one leaves them only with
--- the report of its removal, or of a sync.
+-- What a step makes of the dirty folders: one of the live job's own may join them, or both where something
+-- was moved, and one leaves them only with the report of its removal, or of a sync.
 abbrev pub MovesDirty : Option Running → List Entry → List Route → List Route → Type 0
 MovesDirty job newest dirty dirty_after =
     (dirty_after ≡ dirty) ⊎ (JoinsDirty job dirty dirty_after ⊎ (RemovesDirty newest dirty dirty_after
-    ⊎ (JoinsBoth newest dirty dirty_after ⊎ ((folder : Route) × (dirty_after ≡ without folder dirty) × HasSynced newest))))
+    ⊎ (JoinsBoth newest dirty dirty_after
+    ⊎ ((folder : Route) × (dirty_after ≡ without folder dirty) × HasSynced newest))))
 
 -- the answer of a step where no job can be stepped, by whether the desk is closed
 abbrev pub idle_reply : Bool → StepReply
@@ -287,8 +304,9 @@ pub record Cuts (bytes : List ℕ) (byte : ℕ) (old new : Seen) : Type 0 where
   pub closed : new.tally.closed ≡ true
   pub lacks : LacksSecond (bytes ++ byte ∷ []) new.newest
 
--- What becomes of a byte of a session that isn't over. Where the call failed, either it was not taken, or of the keys that it
--- completed the second may lack.
+-- What becomes of a byte of a session that isn't over. Where the call failed, either it was not taken, or
+-- of the keys that it completed the second may lack.
 abbrev pub TakesByte : Result DeskReply DeskError → List ℕ → ℕ → Seen → Seen → Type 0
 TakesByte (Ok reply) bytes byte old new = Joins bytes byte old new
-TakesByte (Err error) bytes byte old new = Stays bytes old new ⊎ (Joins bytes byte old new ⊎ Cuts bytes byte old new)
+TakesByte (Err error) bytes byte old new =
+    Stays bytes old new ⊎ (Joins bytes byte old new ⊎ Cuts bytes byte old new)

@@ -30,29 +30,35 @@ abbrev pub no_more_ids : List Refusal
 no_more_ids = refusal.Begin NoMoreIds ∷ []
 
 -- a key asks for a job after all numbers were given: that is refused, and a message says so
-pub record FindsNoNumber (contents : Option CallLog) (rows : List JobRow) (next : Option ℕ) (now : ℕ) (key : KeyType) (refusals : List Refusal) (before after : Screen) : Type 0 where
+pub record FindsNoNumber (contents : Option CallLog) (rows : List JobRow) (next : Option ℕ) (now : ℕ)
+    (key : KeyType) (refusals : List Refusal) (before after : Screen) : Type 0 where
   pub plan : Job
   pub background : Bool
-  pub asks : KeyLeads contents rows now key [] before (with_ask (ask.Begin plan background) (at_second now before))
+  pub asks : KeyLeads contents rows now key [] before
+      (with_ask (ask.Begin plan background) (at_second now before))
   pub none_left : next ≡ None
   pub refused : refusals ≡ no_more_ids
   pub told : after ≡ told_refusal (refusal.Begin NoMoreIds) (at_second now before)
 
 -- what a key comes to, while these jobs are live and the next job has this number
-abbrev pub KeyWorks : Option CallLog → List JobRow → Option ℕ → ℕ → KeyType → List Refusal → Screen → Screen → Type 0
+abbrev pub KeyWorks : Option CallLog → List JobRow → Option ℕ → ℕ → KeyType → List Refusal → Screen
+    → Screen → Type 0
 KeyWorks contents rows next now key refusals before after =
-    KeyLeads contents rows now key refusals before after ⊎ FindsNoNumber contents rows next now key refusals before after
+    KeyLeads contents rows now key refusals before after
+    ⊎ FindsNoNumber contents rows next now key refusals before after
 
--- What a key asks is done: a job is begun under the next number. Where there is none that is refused. All else that the key was
--- refused is told as it was.
+-- What a key asks is done: a job is begun under the next number. Where there is none that is refused. All
+-- else that the key was refused is told as it was.
 abbrev pub IsGranted : Option ℕ → Ask → List Refusal → Deed → List Refusal → Type 0
 IsGranted next asked own Nothing refusals = (asked ≡ ask.Nothing) × (refusals ≡ own)
 IsGranted next asked own End refusals = (asked ≡ ask.End) × (refusals ≡ own)
 IsGranted next asked own (Answer answer) refusals = (asked ≡ ask.Answer answer) × (refusals ≡ own)
 IsGranted next asked own (Begin confirmed) refusals =
-    (asked ≡ ask.Begin confirmed.plan confirmed.background) × (next ≡ Some confirmed.run.id) × (refusals ≡ own)
+    (asked ≡ ask.Begin confirmed.plan confirmed.background) × (next ≡ Some confirmed.run.id)
+    × (refusals ≡ own)
 IsGranted next asked own Refuse refusals =
-    (plan : Job) × (background : Bool) × (asked ≡ ask.Begin plan background) × (next ≡ None) × (refusals ≡ no_more_ids)
+    (plan : Job) × (background : Bool) × (asked ≡ ask.Begin plan background) × (next ≡ None)
+    × (refusals ≡ no_more_ids)
 
 -- what the screen is told of it
 abbrev pub told_of : Deed → Told
@@ -67,7 +73,8 @@ abbrev pub with_deed : Deed → Screen → Screen
 with_deed Nothing screen = screen
 with_deed Refuse screen = screen
 with_deed End screen = record screen { planned = Some Ends }
-with_deed (Begin confirmed) screen = record screen { planned = Some (Begins confirmed.plan confirmed.background) }
+with_deed (Begin confirmed) screen =
+    record screen { planned = Some (Begins confirmed.plan confirmed.background) }
 with_deed (Answer answer) screen = record screen { planned = Some (Answers answer) }
 
 -- it can be done: a job is begun while none is live, and answered as it may be
@@ -75,11 +82,13 @@ abbrev pub CanBeDone : List JobRow → Option ℕ → Deed → Type 0
 CanBeDone rows next Nothing = ⊤
 CanBeDone rows next Refuse = ⊤
 CanBeDone rows next End = ⊤
-CanBeDone rows next (Begin confirmed) = (rows ≡ []) × (are_workable confirmed.plan ≡ true) × (next ≡ Some confirmed.run.id)
+CanBeDone rows next (Begin confirmed) =
+    (rows ≡ []) × (are_workable confirmed.plan ≡ true) × (next ≡ Some confirmed.run.id)
 CanBeDone rows next (Answer answer) = can_answer rows answer ≡ true
 
 -- a key was worked on the screen, and it was decided what is done about it
-pub record IsWorked (contents : Option CallLog) (rows : List JobRow) (next : Option ℕ) (now : ℕ) (key : KeyType) (before after : Screen) (done : Deed) (refusals : List Refusal) : Type 0 where
+pub record IsWorked (contents : Option CallLog) (rows : List JobRow) (next : Option ℕ) (now : ℕ)
+    (key : KeyType) (before after : Screen) (done : Deed) (refusals : List Refusal) : Type 0 where
   pub works : KeyWorks contents rows next now key refusals before (with_deed done after)
   pub can : CanBeDone rows next done
   pub settled : after.planned ≡ None

@@ -1,5 +1,5 @@
--- The rows of the live jobs, as the screen sees them: each is what its run and its newest report say. Histories stand newest
--- first here.
+-- The rows of the live jobs, as the screen sees them: each is what its run and its newest report say.
+-- Histories stand newest first here.
 use Rattle.std.specs.Prelude.{false, if◌then◌else◌, List, [], ◌∷◌, Option, Some, None}
 use Rattle.job_reports.specs.declared.question.Question.{Question}
 use Rattle.job_reports.specs.declared.report.Trouble.{Trouble}

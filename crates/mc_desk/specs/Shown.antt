@@ -1,5 +1,7 @@
--- What a session puts on its terminal: each key that is worked, each look, and the steps of a search draw the frame of what the screen then shows.
-use Rattle.std.specs.Prelude.{◌≡◌, ◌⊎◌, ℕ, Bool, true, false, List, [], ◌∷◌, ◌++◌, length, map, take, drop, Option, Some, None}
+-- What a session puts on its terminal: each key that is worked, each look, and the steps of a search draw
+-- the frame of what the screen then shows.
+use Rattle.std.specs.Prelude.{◌≡◌, ◌⊎◌, ℕ, Bool, true, false, List, [], ◌∷◌}
+use Rattle.std.specs.Prelude.{◌++◌, length, map, take, drop, Option, Some, None}
 use Rattle.tree_trait.specs.Answers.{IfKnown}
 use Rattle.key_screen.specs.Grids.{CellGrid}
 use Rattle.std.specs.Option.{option_map}
@@ -9,7 +11,8 @@ use Rattle.job_reports.specs.declared.row.JobState.TheVariants.{Ready}
 use Rattle.session_entries.specs.declared.history.Entry.{Entry}
 use Rattle.session_entries.specs.Sources.{sources_of}
 use Rattle.session_entries.specs.declared.history.Event.{Event}
-use Rattle.session_entries.specs.declared.history.Event.TheVariants.{Key, Look, Sought, Began, Order, Step, Next, Closed}
+use Rattle.session_entries.specs.declared.history.Event.TheVariants.{Key, Look, Sought, Began}
+use Rattle.session_entries.specs.declared.history.Event.TheVariants.{Order, Step, Next, Closed}
 use Rattle.copy_move.specs.Jobs.{begun_work}
 use Rattle.copy_move.specs.Told.{running}
 use Rattle.mc_desk.specs.LiveRows.{rows_of}
@@ -33,35 +36,43 @@ pub record HasPutNothing (put : Put) : Type 0 where
   pub bytes : IfKnown put.bytes (λ bytes. bytes ≡ [])
   pub uncut : put.is_cut ≡ false
 
--- After these bytes each terminal of a frame's size shows the frame, whatever it was given and showed before, as a blank one.
+-- After these bytes each terminal of a frame's size shows the frame, whatever it was given and
+-- showed before, as a blank one.
 abbrev pub ShowsOverAny : List ℕ → CellGrid → Type 0
-ShowsOverAny bytes frame = (earlier : List ℕ) (was : CellGrid) → Shows earlier was → HasSizeOf was frame → Shows (earlier ++ bytes) frame
+ShowsOverAny bytes frame = (earlier : List ℕ) (was : CellGrid) → Shows earlier was → HasSizeOf was frame
+    → Shows (earlier ++ bytes) frame
 
--- These bytes draw a frame behind what was put before: each terminal shows it then. Unless they are the first of the session they
--- write only what differs from the frame that each shows before them.
+-- These bytes draw a frame behind what was put before: each terminal shows it then. Unless they are the
+-- first of the session they write only what differs from the frame that each shows before them.
 pub record DrawsBehind (is_first : Bool) (before : List ℕ) (frame : CellGrid) (bytes : List ℕ) : Type 0 where
   pub shows : ShowsOverAny (before ++ bytes) frame
-  pub sparse : is_first ≡ false → (was : CellGrid) × HasSizeOf was frame × ShowsOverAny before was × IsSparse was frame bytes
+  pub sparse : is_first ≡ false
+      → (was : CellGrid) × HasSizeOf was frame × ShowsOverAny before was × IsSparse was frame bytes
 
 -- a drawing that ended: all of such bytes were put, and so many bytes are shown by now
 pub record PutsFrame (is_first : Bool) (frame : CellGrid) (shown : ℕ) (before after : Put) : Type 0 where
   pub whole : after.is_cut ≡ false
-  pub bytes : IfKnown before.bytes (λ earlier. (drawn : List ℕ) × (after.bytes ≡ Some (earlier ++ drawn)) × (shown ≡ length (earlier ++ drawn))
+  pub bytes : IfKnown before.bytes (λ earlier. (drawn : List ℕ) × (after.bytes ≡ Some (earlier ++ drawn))
+      × (shown ≡ length (earlier ++ drawn))
       × DrawsBehind is_first earlier frame drawn)
 
--- a drawing that was cut short: nothing was put, or a prefix of such bytes; those of the drawings that ended are shown
+-- a drawing that was cut short: nothing was put, or a prefix of such bytes; those of the
+-- drawings that ended are shown
 pub record CutsFrame (is_first : Bool) (frame : CellGrid) (shown : ℕ) (before after : Put) : Type 0 where
   pub cut : after.is_cut ≡ true
   pub bytes : IfKnown before.bytes (λ earlier. (shown ≡ length earlier) × ((after.bytes ≡ Some earlier)
-      ⊎ ((drawn : List ℕ) × (count : ℕ) × (after.bytes ≡ Some (earlier ++ take count drawn)) × DrawsBehind is_first earlier frame drawn)))
+      ⊎ ((drawn : List ℕ) × (count : ℕ) × (after.bytes ≡ Some (earlier ++ take count drawn))
+      × DrawsBehind is_first earlier frame drawn)))
 
--- An entry that draws a frame: no drawing before it was cut short, and its own ended or was. A sink that told nothing never does.
+-- An entry that draws a frame: no drawing before it was cut short, and its own ended or was. A sink that
+-- told nothing never does.
 pub record DrawsFrame (is_first : Bool) (frame : CellGrid) (shown : ℕ) (before after : Put) : Type 0 where
   pub uncut : before.is_cut ≡ false
   pub drawn : PutsFrame is_first frame shown before after ⊎ CutsFrame is_first frame shown before after
   pub untold : before.bytes ≡ None → after.bytes ≡ None
 
--- A lost key puts nothing, and its entry counts the bytes of the drawings before it, none of which was cut short.
+-- A lost key puts nothing, and its entry counts the bytes of the drawings before it,
+-- none of which was cut short.
 pub record PutsNothing (shown : ℕ) (before after : Put) : Type 0 where
   pub same : after ≡ before
   pub uncut : before.is_cut ≡ false
@@ -74,7 +85,8 @@ pub record DrawsNothing (shown : ℕ) (before after : Put) : Type 0 where
 
 -- A key that was worked, a look and the steps of a search draw their frame; nothing else puts anything.
 abbrev pub EventDraws : Event → Bool → CellGrid → ℕ → Put → Put → Type 0
-EventDraws (Key key now refusals false) is_first frame shown before after = DrawsFrame is_first frame shown before after
+EventDraws (Key key now refusals false) is_first frame shown before after =
+    DrawsFrame is_first frame shown before after
 EventDraws (Key key now refusals true) is_first frame shown before after = PutsNothing shown before after
 EventDraws (Look refusals) is_first frame shown before after = DrawsFrame is_first frame shown before after
 EventDraws Sought is_first frame shown before after = DrawsFrame is_first frame shown before after
@@ -92,8 +104,8 @@ ready_row row = record row { state = Ready; asked = None; trouble = None }
 abbrev pub begun_rows : ℕ → Job → List JobRow
 begun_rows id plan = rows_of (option_map (running id) (begun_work id (sources_of plan))) None
 
--- the rows of the live jobs once what was asked for is carried out: a job that is begun has the next number, and is ready; one
--- that is answered is ready again
+-- the rows of the live jobs once what was asked for is carried out: a job that is begun has the next
+-- number, and is ready; one that is answered is ready again
 abbrev pub rows_then : Option Planned → Option ℕ → List JobRow → List JobRow
 rows_then None next rows = rows
 rows_then (Some Ends) next rows = rows

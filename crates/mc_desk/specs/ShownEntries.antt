@@ -1,8 +1,11 @@
--- What each terminal shows of the bytes that a session put, entry by entry. Histories stand newest first here.
-use Rattle.std.specs.Prelude.{◌≡◌, ◌⊎◌, ℕ, ◌≤◌, Bool, true, false, ⊤, not, List, [], ◌∷◌, ◌++◌, length, take, Option}
+-- What each terminal shows of the bytes that a session put, entry by entry. Histories
+-- stand newest first here.
+use Rattle.std.specs.Prelude.{◌≡◌, ◌⊎◌, ℕ, ◌≤◌, Bool, true, false, ⊤, not}
+use Rattle.std.specs.Prelude.{List, [], ◌∷◌, ◌++◌, length, take, Option}
 use Rattle.tree_trait.specs.Change.{CallLog}
 use Rattle.session_entries.specs.declared.history.Event.{Event}
-use Rattle.session_entries.specs.declared.history.Event.TheVariants.{Key, Look, Sought, Began, Order, Step, Next, Closed}
+use Rattle.session_entries.specs.declared.history.Event.TheVariants.{Key, Look, Sought, Began}
+use Rattle.session_entries.specs.declared.history.Event.TheVariants.{Order, Step, Next, Closed}
 use Rattle.session_entries.specs.declared.history.Entry.{Entry}
 use Rattle.session_entries.specs.Entries.{last_id}
 use Rattle.key_screen.specs.Grids.{CellGrid}
@@ -29,31 +32,38 @@ NoneDraws [] = ⊤
 NoneDraws (e ∷ older) = (draws e.what ≡ false) × NoneDraws older
 
 -- what a session came to with an entry, and the frame of that
-pub record CameTo (start : Option Start) (opening : Option CallLog) (faults : ℕ) (e : Entry) (older : List Entry) (frame : CellGrid) : Type 0 where
+pub record CameTo (start : Option Start) (opening : Option CallLog) (faults : ℕ) (e : Entry)
+    (older : List Entry) (frame : CellGrid) : Type 0 where
   pub now : SessionState
   pub session : IsSession start opening faults (e ∷ older) now
   pub frame_is : frame ≡ frame_due now.screen (next_id (last_id older)) (rows_told older)
 
--- Each terminal shows of the bytes that were put, as many as the entry says, the frame of what the session came to with it,
--- whatever it showed before the session.
-pub record ShowsEntry (start : Option Start) (opening : Option CallLog) (faults : ℕ) (e : Entry) (older : List Entry) (put : List ℕ) : Type 0 where
+-- Each terminal shows of the bytes that were put, as many as the entry says, the frame of what the session
+-- came to with it, whatever it showed before the session.
+pub record ShowsEntry (start : Option Start) (opening : Option CallLog) (faults : ℕ) (e : Entry)
+    (older : List Entry) (put : List ℕ) : Type 0 where
   pub frame : CellGrid
   pub came : CameTo start opening faults e older frame
   pub some : e.shown ≤ length put
   pub shows : ShowsOverAny (take e.shown put) frame
 
--- The drawing of an entry was cut short, which is the last that draws: what was put are the bytes of the drawings that ended, as
--- many as the entry says, and then perhaps a prefix of bytes that would have drawn the frame of what the session came to with it.
-pub record CutsEntry (start : Option Start) (opening : Option CallLog) (faults : ℕ) (later : List Entry) (e : Entry) (older : List Entry) (put : List ℕ) : Type 0 where
+-- The drawing of an entry was cut short, which is the last that draws: what was put are the bytes of the
+-- drawings that ended, as many as the entry says, and then perhaps a prefix of bytes that would have drawn
+-- the frame of what the session came to with it.
+pub record CutsEntry (start : Option Start) (opening : Option CallLog) (faults : ℕ) (later : List Entry)
+    (e : Entry) (older : List Entry) (put : List ℕ) : Type 0 where
   pub last : NoneDraws later
   pub frame : CellGrid
   pub came : CameTo start opening faults e older frame
   pub ended : List ℕ
   pub counted : e.shown ≡ length ended
-  pub put_is : (put ≡ ended) ⊎ ((drawn : List ℕ) × (count : ℕ) × (put ≡ ended ++ take count drawn) × DrawsBehind (none_before older) ended frame drawn)
+  pub put_is : (put ≡ ended) ⊎ ((drawn : List ℕ) × (count : ℕ) × (put ≡ ended ++ take count drawn)
+      × DrawsBehind (none_before older) ended frame drawn)
 
--- of each entry that draws each terminal shows its frame, but for the last one where its drawing was cut short
+-- of each entry that draws each terminal shows its frame, but for the last one where
+-- its drawing was cut short
 abbrev pub ShowsEach : Option Start → Option CallLog → ℕ → List Entry → Bool → List ℕ → Type 0
 ShowsEach start opening faults newest is_cut put =
     (later : List Entry) (e : Entry) (older : List Entry) → newest ≡ later ++ e ∷ older → draws e.what ≡ true
-    → ShowsEntry start opening faults e older put ⊎ ((is_cut ≡ true) × CutsEntry start opening faults later e older put)
+    → ShowsEntry start opening faults e older put
+    ⊎ ((is_cut ≡ true) × CutsEntry start opening faults later e older put)

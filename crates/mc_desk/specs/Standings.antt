@@ -1,4 +1,5 @@
--- What a session has come to, as the desk keeps it, and what a key's request, a look and the close make of that.
+-- What a session has come to, as the desk keeps it, and what a key's request, a look
+-- and the close make of that.
 use Rattle.std.specs.Prelude.{◌≡◌, ℕ, Bool, true, false, ⊤, if◌then◌else◌, List, [], Option, Some, None}
 use Rattle.std.specs.Option.{option_map}
 use Rattle.session_entries.specs.declared.history.Event.{Event}
@@ -20,7 +21,17 @@ use Rattle.mc_desk.specs.Tallies.{Tally}
 
 -- nothing happened yet, and the opening frame is due
 abbrev pub fresh_standing : Standing
-fresh_standing = record { job = None; later = []; last_id = 0; calls = 0; has_unseen_end = false; due = First; closed = false; quit = false; lost = false }
+fresh_standing = record {
+  job = None;
+  later = [];
+  last_id = 0;
+  calls = 0;
+  has_unseen_end = false;
+  due = First;
+  closed = false;
+  quit = false;
+  lost = false;
+}
 
 -- what is to be looked at before the next key, by its number
 abbrev pub awaited_look : Due → Option ℕ
@@ -50,12 +61,14 @@ MayCarryOut job deed.End = ⊤
 
 -- a job that was begun is live and due, with these sources to come, and its number is the last one
 abbrev pub after_start : Running → List JobPlan → Standing → Standing
-after_start run later standing = record standing { job = Some run; later = later; last_id = run.id; due = Job run.id }
+after_start run later standing =
+    record standing { job = Some run; later = later; last_id = run.id; due = Job run.id }
 
 -- the live job is answered and due
 abbrev pub after_answer : AnswerType → Option Running → Standing → Standing
 after_answer answer None standing = standing
-after_answer answer (Some live) standing = record standing { job = Some (answered_job answer live); due = Job live.id }
+after_answer answer (Some live) standing =
+    record standing { job = Some (answered_job answer live); due = Job live.id }
 
 -- what carrying out makes of a session
 abbrev pub after_deed : Deed → Standing → Standing
@@ -83,7 +96,8 @@ after_look can_step due = if can_step then due else Nothing
 
 -- a session that is closed
 abbrev pub closed_standing : Standing → Standing
-closed_standing standing = record standing { job = option_map closed_job standing.job; due = Nothing; closed = true }
+closed_standing standing =
+    record standing { job = option_map closed_job standing.job; due = Nothing; closed = true }
 
 -- the answer that the session is over
 abbrev pub is_quit : DeskReply → Bool
@@ -99,4 +113,5 @@ awaited_by Quit = None
 
 -- an entry of steps of a search, behind which so many bytes are shown
 abbrev pub sought_entry : ℕ → ℕ → ℕ → Entry
-sought_entry calls faults shown = record { seat = 0; calls = calls; faults = faults; shown = shown; what = event.Sought }
+sought_entry calls faults shown =
+    record { seat = 0; calls = calls; faults = faults; shown = shown; what = event.Sought }

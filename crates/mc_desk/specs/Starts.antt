@@ -1,5 +1,5 @@
--- What the start of a session comes to: it opens where its paths lead to folders that can be listed, or to a file that can be read,
--- and else says why not.
+-- What the start of a session comes to: it opens where its paths lead to folders that can be listed, or to
+-- a file that can be read, and else says why not.
 use Rattle.std.specs.Prelude.{◌≡◌, ◌≤◌, ℕ, ⊤, Bool, true, false, [], Option, Some, None, Result, Ok, Err}
 use Rattle.std.specs.Option.{option_map}
 use Rattle.mc_text.specs.Routes.{Route, path_text}
@@ -29,14 +29,16 @@ use Rattle.mc_desk.specs.declared.starts.StartPlace.{StartPlace}
 use Rattle.mc_desk.specs.declared.starts.StartPlace.TheVariants as place
 
 -- a screen on which nothing happened yet, and a history with nothing in it
-pub record IsOpened (contents : Option CallLog) (start : Start) (screen : Screen) (log : Logged) : Type 0 where
+pub record IsOpened (contents : Option CallLog) (start : Start) (screen : Screen)
+    (log : Logged) : Type 0 where
   pub opening : IsOpening contents start screen
   pub empty : log.newest ≡ []
   pub room : 1 ≤ log.spare
 
 -- why the folder to which a way leads can't be listed, if it can't
 abbrev pub refusal_at_end : FileSystem → Result Route ResolveError → Option ResolveError
-refusal_at_end s (Ok folder) = option_map (λ (e : TreeError). resolve.Tree folder e) (refusal_of s (ListFolder folder))
+refusal_at_end s (Ok folder) =
+    option_map (λ (e : TreeError). resolve.Tree folder e) (refusal_of s (ListFolder folder))
 refusal_at_end s (Err e) = Some e
 
 -- why a path leads to no folder that can be listed, if it leads to none
@@ -45,7 +47,8 @@ path_refusal s path = refusal_at_end s (resolved_path s FolderAlone [] (path_tex
 
 -- why the file to which a way leads can't be read, if it can't
 abbrev pub unread_at_end : FileSystem → Result Route ResolveError → Option ResolveError
-unread_at_end s (Ok file) = option_map (λ (e : TreeError). resolve.Tree file e) (refusal_of s (ReadAt file 0 0))
+unread_at_end s (Ok file) =
+    option_map (λ (e : TreeError). resolve.Tree file e) (refusal_of s (ReadAt file 0 0))
 unread_at_end s (Err e) = Some e
 
 -- why a path leads to no file that can be read, if it leads to none
@@ -66,7 +69,8 @@ abbrev pub CanStart : FileSystem → StartMode → Type 0
 CanStart s (Panels left right) = (path_refusal s left ≡ None) × (path_refusal s right ≡ None)
 CanStart s (View path) = file_refusal s path ≡ None
 
--- Why a session of panels doesn't start: as the first path is refused that leads to no folder which can be listed.
+-- Why a session of panels doesn't start: as the first path is refused that leads to no
+-- folder which can be listed.
 abbrev pub IsPanelCause : FileSystem → Route → Route → StartPlace → ResolveError → Type 0
 IsPanelCause s left right place.Left e = IsRefusal (path_refusal s left) e
 IsPanelCause s left right place.Right e = (path_refusal s left ≡ None) × IsRefusal (path_refusal s right) e
@@ -82,7 +86,8 @@ abbrev pub IsPathCause : FileSystem → StartMode → StartPlace → ResolveErro
 IsPathCause s (Panels left right) at e = IsPanelCause s left right at e
 IsPathCause s (View path) at e = IsViewerCause s path at e
 
--- Why a session over these files doesn't start: as one of its paths is refused, or by a fault, or since memory ran out.
+-- Why a session over these files doesn't start: as one of its paths is refused, or by a fault,
+-- or since memory ran out.
 abbrev pub IsStartCause : FileSystem → StartMode → StartError → Type 0
 IsStartCause s mode Memory = ⊤
 IsStartCause s mode (Resolve at e) = IsPathCause s mode at e

@@ -1,10 +1,13 @@
--- What a history comes to: the live job, what is due, and what was counted. Histories stand newest first here.
-use Rattle.std.specs.Prelude.{ℕ, ◌+◌, ◌-◌, ◌^◌, nat_lt, Bool, true, false, ◌||◌, if◌then◌else◌, List, [], ◌∷◌, ◌++◌, Option, Some, None}
+-- What a history comes to: the live job, what is due, and what was counted. Histories
+-- stand newest first here.
+use Rattle.std.specs.Prelude.{ℕ, ◌+◌, ◌-◌, ◌^◌, nat_lt, Bool, true, false, ◌||◌}
+use Rattle.std.specs.Prelude.{if◌then◌else◌, List, [], ◌∷◌, ◌++◌, Option, Some, None}
 use Rattle.std.specs.Option.{option_map}
 use Rattle.key_screen.specs.declared.keys.Key.{Key as KeyType}
 use Rattle.job_reports.specs.declared.report.Did.TheVariants.{Ended}
 use Rattle.session_entries.specs.declared.history.Event.{Event}
-use Rattle.session_entries.specs.declared.history.Event.TheVariants.{Key, Look, Sought, Began, Order, Step, Next, Closed}
+use Rattle.session_entries.specs.declared.history.Event.TheVariants.{Key, Look, Sought, Began}
+use Rattle.session_entries.specs.declared.history.Event.TheVariants.{Order, Step, Next, Closed}
 use Rattle.session_entries.specs.declared.history.Entry.{Entry}
 use Rattle.copy_move.specs.Jobs.{Running, waits_on}
 use Rattle.laws_sessions.specs.ToldJob.{live_job, after_event}
@@ -30,8 +33,8 @@ abbrev pub can_step : Option Running → Bool
 can_step None = false
 can_step (Some job) = if waits_on job.course then false else true
 
--- What is to be looked at before the next key: the opening frame, which has the number 0; or the job that was begun or
--- answered, until a look finds that it can't be stepped.
+-- What is to be looked at before the next key: the opening frame, which has the number 0; or the job that
+-- was begun or answered, until a look finds that it can't be stepped.
 abbrev pub due_after : Event → Option Running → Option ℕ → Option ℕ
 due_after (Key key now refusals lost) job before = before
 due_after (Look refusals) job before = if can_step job then before else None
@@ -66,8 +69,9 @@ abbrev pub faults_in : ℕ → List Entry → ℕ
 faults_in opening [] = opening
 faults_in opening (e ∷ older) = e.faults
 
--- what a history comes to: the live job as it tells it, and the last one's number; whether a job's end waits for a look, whether the session
--- is closed, what is to be looked at before the next key, and whether a key was lost; and the changing calls
+-- what a history comes to: the live job as it tells it, and the last one's number; whether a job's end
+-- waits for a look, whether the session is closed, what is to be looked at before the next key, and whether
+-- a key was lost; and the changing calls
 pub record Tally : Type 0 where
   pub job : Option Running
   pub last : ℕ

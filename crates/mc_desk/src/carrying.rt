@@ -37,7 +37,8 @@ pub fn carry_out<N: Tag, S: Sink>(
     requires size { FitsScreen terminal.old.display.grid ui.now }
     ensures done { standing.new ≡ after_deed deed standing.old }
     ensures told { result.follows ≡ event_of deed standing.old.job }
-    ensures shows { ShowsFrame (frame_of ui.now (rows_of standing.new.job (waits_told log.now.newest))) result.drawn terminal.old terminal.new }
+    ensures shows { ShowsFrame (frame_of ui.now (rows_of standing.new.job (waits_told log.now.newest)))
+        result.drawn terminal.old terminal.new }
 {
     let follows = standing.carry_out(deed);
     let drawn = terminal.show(alloc, ui, &standing.job, log);

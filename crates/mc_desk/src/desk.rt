@@ -1,5 +1,7 @@
-//! The desk: a session, and how many bytes of the keyboard it has taken. These are the first that the keyboard gives.
-ghost use Rattle.std.specs.Prelude.{◌≡◌, ◌<◌, ◌≤◌, false, true, [], Option, IfOk, IfErr, IsSome, IsTrue, OnOk, None, Some, if◌then◌else◌, reverse};
+//! The desk: a session, and how many bytes of the keyboard it has taken. These are the first
+//! that the keyboard gives.
+ghost use Rattle.std.specs.Prelude.{◌≡◌, ◌<◌, ◌≤◌, false, true, [], Option, IfOk, IfErr};
+ghost use Rattle.std.specs.Prelude.{IsSome, IsTrue, OnOk, None, Some, if◌then◌else◌, reverse};
 ghost use Rattle.tree_trait.specs.Change.{current};
 ghost use Rattle.tree_trait.specs.Answers.{IfKnown, HasRisen};
 ghost use Rattle.session_entries.specs.Sources.{AreInTurn};
@@ -13,7 +15,9 @@ ghost use Rattle.mc_desk.specs.Tallies.{can_step, faults_in, has_lost};
 ghost use Rattle.mc_desk.specs.Outputs.{Blames};
 ghost use Rattle.mc_desk.specs.Shown.{HasGiven, put_since};
 ghost use Rattle.mc_desk.specs.Standings.{awaited_by, is_quit};
-ghost use Rattle.mc_desk.specs.Desks.{BlamesScreen, CountsByte, FailsClosed, IsFresh, IsNext, KeepsKeys, MovesDirty, RanNothing, Reads, ShowsDesk, idle_reply, is_over, rank_of, seeks};
+ghost use Rattle.mc_desk.specs.Desks.{BlamesScreen, CountsByte, FailsClosed, IsFresh};
+ghost use Rattle.mc_desk.specs.Desks.{IsNext, KeepsKeys, MovesDirty, RanNothing, Reads};
+ghost use Rattle.mc_desk.specs.Desks.{ShowsDesk, idle_reply, is_over, rank_of, seeks};
 ghost use Rattle.mc_desk.specs.Searches.{steps_ahead};
 
 use crate::opening::open;
@@ -42,10 +46,10 @@ impl<N: Tag, T: Tree, S: Sink, P: Spawner> Model for Desk<N, T, S, P> {
 }
 
 impl<N: Tag, T: Tree, S: Sink, P: Spawner> Desk<N, T, S, P> {
-    /// Opens a session at a second of the clock: in the folders to which two paths lead, or in the viewer on the file to which one
-    /// does. It is refused as the first of its paths that leads to no folder that can be listed, or to no file that can be read, or
-    /// since memory ran out; the devices are as they were then, but for the tree's
-    /// count of faults.
+    /// Opens a session at a second of the clock: in the folders to which two paths lead, or in the viewer
+    /// on the file to which one does. It is refused as the first of its paths that leads to no folder that
+    /// can be listed, or to no file that can be read, or since memory ran out; the devices are as they were
+    /// then, but for the tree's count of faults.
     pub fn begin(
         alloc: Global,
         start: Start,
@@ -66,8 +70,10 @@ impl<N: Tag, T: Tree, S: Sink, P: Spawner> Desk<N, T, S, P> {
         ensures fresh { IfOk result IsFresh }
         ensures permitted { IfKnown (T.contents tree) (λ log.
             OnOk result (CanStart (current log) start.mode)) }
-        ensures cause { IfKnown (T.contents tree) (λ log. IfErr result (λ r. IsStartCause (current log) start.mode r.error)) }
-        ensures fault { IfErr result (λ r. is_start_fault r.error ≡ true → HasRisen (T.fault_count tree) (T.fault_count r.tree)) }
+        ensures cause { IfKnown (T.contents tree) (λ log.
+            IfErr result (λ r. IsStartCause (current log) start.mode r.error)) }
+        ensures fault { IfErr result (λ r. is_start_fault r.error ≡ true
+            → HasRisen (T.fault_count tree) (T.fault_count r.tree)) }
         ensures same { IfErr result (λ r. T.contents r.tree ≡ T.contents tree) }
         ensures later { IfErr result (λ r. T.fault_count tree ≤ T.fault_count r.tree) }
         ensures same_screen { IfErr result (λ r. r.screen ≡ screen) }
@@ -88,9 +94,10 @@ impl<N: Tag, T: Tree, S: Sink, P: Spawner> Desk<N, T, S, P> {
         }
     }
 
-    /// Takes the next byte of the keyboard and works the keys that it completes; the reply is that of the last. Each is drawn.
-    /// Where it finds no memory before the byte is taken, nothing changes; each other error closes the desk. `Wait` names the
-    /// job that is due then. One that is closed, or whose end was asked, takes no byte and answers `Quit`.
+    /// Takes the next byte of the keyboard and works the keys that it completes; the reply is that of the
+    /// last. Each is drawn. Where it finds no memory before the byte is taken, nothing changes; each other
+    /// error closes the desk. `Wait` names the job that is due then. One that is closed, or whose end was
+    /// asked, takes no byte and answers `Quit`.
     pub fn byte(&mut self, alloc: Global, byte: u8, now: u64) -> Result<DeskReply, DeskError>
         requires looked { self.old.tally.due ≡ None }
         requires sought { seeks self.old ≡ false }
@@ -110,8 +117,9 @@ impl<N: Tag, T: Tree, S: Sink, P: Spawner> Desk<N, T, S, P> {
         self.session.byte(alloc, byte, now)
     }
 
-    /// Takes up what the job did, and draws. After the job's end the panels are read again, and a message tells of it where memory
-    /// ran out or a part was left. Where nothing is due the desk stays as it is: so one that is closed, or whose end was asked.
+    /// Takes up what the job did, and draws. After the job's end the panels are read again, and a message
+    /// tells of it where memory ran out or a part was left. Where nothing is due the desk stays as it is:
+    /// so one that is closed, or whose end was asked.
     pub fn look(&mut self, alloc: Global) -> Result<(), DeskError>
         ensures shows { OnOk result (self.new.tally.closed ≡ false → ShowsDesk self.new) }
         ensures looked { OnOk result (can_step self.old.tally.job ≡ false → self.new.tally.due ≡ None) }
@@ -125,12 +133,14 @@ impl<N: Tag, T: Tree, S: Sink, P: Spawner> Desk<N, T, S, P> {
         self.session.look(alloc)
     }
 
-    /// Makes steps of the search that goes on, a hundred at most, and draws the list as it then is. Where none goes on the desk stays as it
-    /// is. Where memory is wanting for a step the desk is closed, once what was found by then is drawn.
+    /// Makes steps of the search that goes on, a hundred at most, and draws the list as it then is. Where
+    /// none goes on the desk stays as it is. Where memory is wanting for a step the desk is closed, once
+    /// what was found by then is drawn.
     pub fn seek(&mut self, alloc: Global) -> Result<(), DeskError>
         requires looked { self.old.tally.due ≡ None }
         ensures shows { OnOk result (self.new.tally.closed ≡ false → ShowsDesk self.new) }
-        ensures nearer { OnOk result (seeks self.old ≡ true → steps_ahead self.new.screen < steps_ahead self.old.screen) }
+        ensures nearer { OnOk result (seeks self.old ≡ true
+            → steps_ahead self.new.screen < steps_ahead self.old.screen) }
         ensures over { seeks self.old ≡ false → self.new ≡ self.old }
         ensures looked { OnOk result (self.new.tally.due ≡ None) }
         ensures fails { IfErr result (λ error. FailsClosed error self.old self.new) }
@@ -165,25 +175,29 @@ impl<N: Tag, T: Tree, S: Sink, P: Spawner> Desk<N, T, S, P> {
         self.session.is_ready(job)
     }
 
-    /// Makes one step of the job, if it is ready: `Did` where an entry was added. Where a source is finished, the job goes on with the next one, and
-    /// that is what the entry tells. Without memory for the entry no call of the tree is made, and the job ends by the entry for which room was kept.
-    /// Only the main thread steps yet, whose seat is 0.
+    /// Makes one step of the job, if it is ready: `Did` where an entry was added. Where a source is
+    /// finished, the job goes on with the next one, and that is what the entry tells. Without memory for
+    /// the entry no call of the tree is made, and the job ends by the entry for which room was kept. Only
+    /// the main thread steps yet, whose seat is 0.
     pub fn step(&mut self, alloc: Global, seat: u32) -> StepReply
         requires main { seat ≡ 0 }
-        ensures reply { result ≡ (if can_step self.old.tally.job then StepReply.Did else idle_reply self.old.tally.closed) }
+        ensures reply { result
+            ≡ (if can_step self.old.tally.job then StepReply.Did else idle_reply self.old.tally.closed) }
         ensures screen { self.new.screen ≡ self.old.screen }
         ensures keys { KeepsKeys self.old self.new }
         ensures dirty { MovesDirty self.old.job self.new.newest self.old.dirty self.new.dirty }
-        ensures same { (self.new.tally.closed ≡ self.old.tally.closed) × (self.new.tally.due ≡ self.old.tally.due) }
+        ensures same { (self.new.tally.closed ≡ self.old.tally.closed)
+            × (self.new.tally.due ≡ self.old.tally.due) }
         ensures quit { self.new.quit ≡ self.old.quit }
-        ensures nearer { self.old.tally.closed ≡ true → IsSome self.old.job → rank_of self.new < rank_of self.old }
+        ensures nearer { self.old.tally.closed ≡ true → IsSome self.old.job
+            → rank_of self.new < rank_of self.old }
         ensures worked { IsReady self.old.job → rank_of self.new < rank_of self.old }
     {
         self.session.step(alloc, seat)
     }
 
-    /// Closes the desk: no more keys are taken, and a job that waits for an answer is aborted. It takes no memory. A closed
-    /// desk stays as it is.
+    /// Closes the desk: no more keys are taken, and a job that waits for an answer is aborted. It takes no
+    /// memory. A closed desk stays as it is.
     pub fn close(&mut self)
         ensures closed { self.new.tally.closed ≡ true }
         ensures screen { self.new.screen ≡ self.old.screen }
@@ -197,9 +211,12 @@ impl<N: Tag, T: Tree, S: Sink, P: Spawner> Desk<N, T, S, P> {
 
     /// Ends the session: the desk is closed, and its job stepped to the end.
     pub fn end(self, alloc: Global) -> Ended<T, S, P>
-        // The history is a session over the tree, no job is live at its end, and the sources of each were worked in turn.
-        ensures session { EndsSession N.start N.opening N.tree_faults (reverse result.history.entries) (T.contents result.tree)
-            (record { bytes = put_since N.given (S.given result.screen); is_cut = self.out.put.is_cut }) result.quit }
+        // The history is a session over the tree, no job is live at its end, and the sources of
+        // each were worked in turn.
+        ensures session { EndsSession N.start N.opening N.tree_faults (reverse result.history.entries)
+            (T.contents result.tree)
+            (record { bytes = put_since N.given (S.given result.screen); is_cut = self.out.put.is_cut })
+            result.quit }
         ensures given { HasGiven N.given (put_since N.given (S.given result.screen)) (S.given result.screen) }
         ensures uncut { self.out.put.is_cut ≡ true → self.tally.closed ≡ true }
         ensures traced { IsTracedTo N.opening (T.contents result.tree) (reverse result.history.entries) }
@@ -208,14 +225,17 @@ impl<N: Tag, T: Tree, S: Sink, P: Spawner> Desk<N, T, S, P> {
         ensures counted { result.history.started ≡ jobs_begun result.history.entries }
 
         // Its keys are those of the bytes that were taken.
-        ensures keys { IfKnown N.stream (λ bytes. Reads bytes self.taken self.tally.closed (reverse result.history.entries)) }
+        ensures keys { IfKnown N.stream (λ bytes.
+            Reads bytes self.taken self.tally.closed (reverse result.history.entries)) }
         ensures lost { result.lost ≡ has_lost (reverse result.history.entries) }
         ensures quit { result.quit ≡ self.quit }
 
         // The devices' counts of faults, and the commands.
         ensures screen { Blames result.failed N.sink_faults (S.fault_count result.screen) }
-        ensures faults { faults_in N.tree_faults (reverse result.history.entries) ≤ T.fault_count result.tree }
-        ensures commands { RanNothing N.runs (P.runs result.spawner) N.spawner_faults (P.fault_count result.spawner) }
+        ensures faults { faults_in N.tree_faults (reverse result.history.entries)
+            ≤ T.fault_count result.tree }
+        ensures commands { RanNothing N.runs (P.runs result.spawner) N.spawner_faults
+            (P.fault_count result.spawner) }
     {
         let Desk { session } = self;
         session.end(alloc)

@@ -37,8 +37,8 @@ pub struct Granted {
     pub refusals: Refusals,
 }
 
-/// Works a key on the screen at a second of the clock, while these jobs are live, and decides what is done about what it asks. The screen is told of
-/// that; where memory runs out it is as it was.
+/// Works a key on the screen at a second of the clock, while these jobs are live, and decides what is done
+/// about what it asks. The screen is told of that; where memory runs out it is as it was.
 pub fn work<T: Tree>(
     alloc: Global,
     ui: &mut Ui,
@@ -48,9 +48,11 @@ pub fn work<T: Tree>(
     key: Key,
     now: u64,
 ) -> Result<Granted, NoMemory>
-    ensures worked { IfOk result (λ granted. IsWorked (T.contents tree.old) rows.now next now key ui.old ui.new granted.deed granted.refusals) }
+    ensures worked { IfOk result (λ granted.
+        IsWorked (T.contents tree.old) rows.now next now key ui.old ui.new granted.deed granted.refusals) }
     ensures lost { OnErr result (ui.new ≡ ui.old) }
-    ensures reads { ReadsTree (λ (granted : GrantedType). granted.refusals) result (T.contents tree.old) (T.contents tree.new)
+    ensures reads { ReadsTree (λ (granted : GrantedType). granted.refusals) result (T.contents tree.old)
+        (T.contents tree.new)
         (T.fault_count tree.old) (T.fault_count tree.new) }
 {
     let second = ui.second();
@@ -70,7 +72,8 @@ pub fn work<T: Tree>(
 /// Starts the job that a key asks for under the next number, or refuses it where none is left.
 fn grant(alloc: Global, act: KeyAct, next: Option<u32>) -> Result<Granted, NoMemory>
     requires workable { CanBeWorked act.ask }
-    ensures granted { IfOk result (λ granted. IsGranted next act.ask act.refusals granted.deed granted.refusals) }
+    ensures granted { IfOk result (λ granted.
+        IsGranted next act.ask act.refusals granted.deed granted.refusals) }
     ensures lost { OnErr result (is_request act.ask ≡ true) }
 {
     let KeyAct { ask, refusals } = act;
@@ -105,7 +108,8 @@ fn with_deed(deed: Deed, refusals: Refusals) -> Granted
 
 /// No number is left.
 fn refuse(alloc: Global) -> Result<Granted, NoMemory>
-    ensures { IfOk result (λ granted. granted ≡ record { deed = Deed.Refuse; refusals = Refusal.Begin BeginError.NoMoreIds ∷ [] }) }
+    ensures { IfOk result (λ granted.
+        granted ≡ record { deed = Deed.Refuse; refusals = Refusal.Begin BeginError.NoMoreIds ∷ [] }) }
 {
     let mut refusals = Vec::new(alloc);
     refusals.push(Refusal::Begin(BeginError::NoMoreIds))?;
@@ -121,7 +125,8 @@ fn begin(
     refusals: Refusals,
 ) -> Result<Granted, NoMemory>
     requires workable { are_workable plan ≡ true }
-    ensures { IfOk result (λ granted. IsGranted (Some number) (Ask.Begin plan background) refusals granted.deed granted.refusals) }
+    ensures { IfOk result (λ granted.
+        IsGranted (Some number) (Ask.Begin plan background) refusals granted.deed granted.refusals) }
 {
     let mut later = sources_in(alloc, &plan)?;
     let Some(first) = later.take_next(alloc)? else {

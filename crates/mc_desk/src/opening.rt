@@ -1,4 +1,5 @@
-//! The opening of a session: the folders or the file are read, and room is made for the entry that will close it.
+//! The opening of a session: the folders or the file are read, and room is made for the
+//! entry that will close it.
 ghost use Rattle.std.specs.Prelude.{◌≡◌, ◌≤◌, [], true, false, IfErr, IfOk};
 ghost use Rattle.tree_trait.specs.Change.{current};
 ghost use Rattle.tree_trait.specs.Answers.{IfKnown, HasRisen};
@@ -7,7 +8,8 @@ ghost use Rattle.mc_text.specs.Routes.{path_text};
 ghost use Rattle.panel_pair.specs.Pairs.{unread_pair};
 ghost use Rattle.ui_viewer.specs.Openings.{OpensThing, ReadsToOpen};
 ghost use Rattle.mc_desk.specs.Sessions.{IsOpeningIn, OpensPanels, OpensViewer, viewing_alone};
-ghost use Rattle.mc_desk.specs.Starts.{IsOpened, Starts, is_start_fault, place_of as place_on, start_error, unread_error, viewed_alone};
+ghost use Rattle.mc_desk.specs.Starts.{IsOpened, Starts, is_start_fault, place_of as place_on};
+ghost use Rattle.mc_desk.specs.Starts.{start_error, unread_error, viewed_alone};
 
 use crate::starts::{Start, StartError, StartMode, StartPlace};
 use mc_text::{NoMemory, Path};
@@ -32,7 +34,8 @@ pub fn open<T: Tree>(
     ensures fresh { IfOk result (λ parts. parts.2.has_drawn ≡ false) }
     ensures fits { IfOk result (λ parts. FitsScreen parts.2.grid parts.0) }
     ensures cause { IfKnown (T.contents tree.old) (λ log. Starts (current log) start.mode result) }
-    ensures fault { IfErr result (λ error. is_start_fault error ≡ true → HasRisen (T.fault_count tree.old) (T.fault_count tree.new)) }
+    ensures fault { IfErr result (λ error. is_start_fault error ≡ true
+        → HasRisen (T.fault_count tree.old) (T.fault_count tree.new)) }
     ensures same { T.contents tree.new ≡ T.contents tree.old }
     ensures later { T.fault_count tree.old ≤ T.fault_count tree.new }
 {
@@ -69,7 +72,8 @@ fn open_screen<T: ReadTree>(
     ensures opened { IfOk result (λ ui. IsOpeningIn mode (T.contents tree.old) home lines columns ui) }
     ensures sized { IfOk result (λ ui. (ui.lines ≡ lines) × (ui.columns ≡ columns)) }
     ensures cause { IfKnown (T.contents tree.old) (λ log. Starts (current log) mode result) }
-    ensures fault { IfErr result (λ error. is_start_fault error ≡ true → HasRisen (T.fault_count tree.old) (T.fault_count tree.new)) }
+    ensures fault { IfErr result (λ error. is_start_fault error ≡ true
+        → HasRisen (T.fault_count tree.old) (T.fault_count tree.new)) }
     ensures same { T.contents tree.new ≡ T.contents tree.old }
     ensures later { T.fault_count tree.old ≤ T.fault_count tree.new }
 {
@@ -92,9 +96,12 @@ fn open_panels<T: ReadTree>(
     columns: u16,
     now: u64,
 ) -> Result<Ui, StartError>
-    ensures opened { IfOk result (λ ui. OpensPanels (T.contents tree.old) left.now right.now home lines columns ui) }
-    ensures cause { IfKnown (T.contents tree.old) (λ log. Starts (current log) (StartMode.Panels left.now right.now) result) }
-    ensures fault { IfErr result (λ error. is_start_fault error ≡ true → HasRisen (T.fault_count tree.old) (T.fault_count tree.new)) }
+    ensures opened { IfOk result (λ ui.
+        OpensPanels (T.contents tree.old) left.now right.now home lines columns ui) }
+    ensures cause { IfKnown (T.contents tree.old) (λ log.
+        Starts (current log) (StartMode.Panels left.now right.now) result) }
+    ensures fault { IfErr result (λ error. is_start_fault error ≡ true
+        → HasRisen (T.fault_count tree.old) (T.fault_count tree.new)) }
     ensures same { T.contents tree.new ≡ T.contents tree.old }
     ensures later { T.fault_count tree.old ≤ T.fault_count tree.new }
 {
@@ -115,8 +122,10 @@ fn open_viewer<T: ReadTree>(
     now: u64,
 ) -> Result<Ui, StartError>
     ensures opened { IfOk result (λ ui. OpensViewer (T.contents tree.old) path.now home lines columns ui) }
-    ensures cause { IfKnown (T.contents tree.old) (λ log. Starts (current log) (StartMode.View path.now) result) }
-    ensures fault { IfErr result (λ error. is_start_fault error ≡ true → HasRisen (T.fault_count tree.old) (T.fault_count tree.new)) }
+    ensures cause { IfKnown (T.contents tree.old) (λ log.
+        Starts (current log) (StartMode.View path.now) result) }
+    ensures fault { IfErr result (λ error. is_start_fault error ≡ true
+        → HasRisen (T.fault_count tree.old) (T.fault_count tree.new)) }
     ensures same { T.contents tree.new ≡ T.contents tree.old }
     ensures later { T.fault_count tree.old ≤ T.fault_count tree.new }
 {
@@ -139,7 +148,8 @@ fn open_file<T: ReadTree>(
     columns: u16,
 ) -> Result<Opening, NoMemory>
     ensures opens { IfOk result (OpensThing (T.contents tree.old) [] (path_text path.now) lines columns) }
-    ensures reads { ReadsToOpen result (T.contents tree.old) (T.contents tree.new) (T.fault_count tree.old) (T.fault_count tree.new) }
+    ensures reads { ReadsToOpen result (T.contents tree.old) (T.contents tree.new) (T.fault_count tree.old)
+        (T.fault_count tree.new) }
 {
     let text = path.text(alloc)?;
     open_thing(

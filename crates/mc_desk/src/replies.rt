@@ -20,7 +20,8 @@ pub enum DeskReply {
     Quit,
 }
 
-/// Why a call on the desk failed. The desk is closed then, unless it ran out of memory and left all as it was.
+/// Why a call on the desk failed. The desk is closed then, unless it ran out of
+/// memory and left all as it was.
 #[derive(Clone, Copy, Debug, Drop, Error, PartialEq, Eq)]
 pub enum DeskError {
     #[error("the screen failed")]
@@ -37,7 +38,8 @@ pub enum StepReply {
     Ended,
 }
 
-/// What a session leaves: its devices, its history, and whether the end was asked, the screen failed, or a key was lost.
+/// What a session leaves: its devices, its history, and whether the end was asked, the screen
+/// failed, or a key was lost.
 #[derive(Drop)]
 pub struct Ended<T, S, P> {
     pub tree: T,

@@ -1,7 +1,8 @@
 //! The rows of the live jobs, as the screen sees them.
 ghost use Rattle.std.specs.Prelude.{◌≡◌, ◌∷◌, [], IfOk};
 ghost use Rattle.session_log.specs.Told.{waits_told};
-ghost use Rattle.mc_desk.specs.LiveRows.{question_in, row_of as row_for, rows_of as rows_for, state_with, trouble_in, waits_in as told_in};
+ghost use Rattle.mc_desk.specs.LiveRows.{question_in, row_of as row_for, rows_of as rows_for};
+ghost use Rattle.mc_desk.specs.LiveRows.{state_with, trouble_in, waits_in as told_in};
 
 use copy_move::Run;
 use job_reports::{JobRow, JobRows, JobState, Question, Trouble, Waits};

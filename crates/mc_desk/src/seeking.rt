@@ -42,13 +42,15 @@ pub fn seek_and_show<N: Tag, T: ReadTree, S: Sink>(
     requires seeking { is_seeking ui.old ≡ true }
     requires uncut { terminal.old.put.is_cut ≡ false }
     requires fits { FitsScreen terminal.old.display.grid ui.old }
-    ensures sought { HasSought (T.contents tree.old) (T.fault_count tree.old) (T.fault_count tree.new) ui.old ui.new }
+    ensures sought { HasSought (T.contents tree.old) (T.fault_count tree.old)
+        (T.fault_count tree.new) ui.old ui.new }
     ensures falls { OnOk result.sought (steps_ahead ui.new < steps_ahead ui.old) }
     ensures size { HasSameSize ui.old ui.new }
     ensures settled { ui.new.planned ≡ None }
     ensures same { T.contents tree.new ≡ T.contents tree.old }
     ensures later { T.fault_count tree.old ≤ T.fault_count tree.new }
-    ensures shows { ShowsFrame (frame_of ui.new (rows_of job.now (waits_told log.now.newest))) result.drawn terminal.old terminal.new }
+    ensures shows { ShowsFrame (frame_of ui.new (rows_of job.now (waits_told log.now.newest))) result.drawn
+        terminal.old terminal.new }
 {
     let sought = seek_on(alloc, ui, tree);
     let drawn = terminal.show(alloc, ui, job, log);
@@ -68,12 +70,13 @@ pub fn sought_entry(calls: u64, faults: u64, shown: u128) -> Entry
     }
 }
 
-/// Makes steps of the search that goes on, up to its end, or a hundred. The list grows; nothing is drawn yet. Where memory is wanting it stops, and
-/// nothing that was found is lost.
+/// Makes steps of the search that goes on, up to its end, or a hundred. The list grows; nothing is drawn
+/// yet. Where memory is wanting it stops, and nothing that was found is lost.
 fn seek_on<T: ReadTree>(alloc: Global, ui: &mut Ui, tree: &mut T) -> Result<(), NoMemory>
     requires settled { ui.old.planned ≡ None }
     requires seeking { is_seeking ui.old ≡ true }
-    ensures sought { HasSought (T.contents tree.old) (T.fault_count tree.old) (T.fault_count tree.new) ui.old ui.new }
+    ensures sought { HasSought (T.contents tree.old) (T.fault_count tree.old)
+        (T.fault_count tree.new) ui.old ui.new }
     ensures falls { OnOk result (steps_ahead ui.new < steps_ahead ui.old) }
     ensures size { HasSameSize ui.old ui.new }
     ensures settled { ui.new.planned ≡ None }

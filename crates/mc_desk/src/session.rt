@@ -1,5 +1,5 @@
-//! A session over its devices: its screen, its job and its history. Every call leaves it whole. Where its bytes come from, it
-//! doesn't know: that is the desk's.
+//! A session over its devices: its screen, its job and its history. Every call leaves it whole. Where its
+//! bytes come from, it doesn't know: that is the desk's.
 ghost use Rattle.std.specs.Prelude.{◌≡◌, ◌≤◌, false, []};
 ghost use Rattle.mc_desk.specs.declared.starts.Start.{Start};
 ghost use Rattle.mc_desk.specs.Outputs.{FitsScreen};
@@ -49,7 +49,8 @@ impl<N: Tag, T: Tree, S: Sink, P: Spawner> Model for Session<N, T, S, P> {
 }
 
 impl<N: Tag, T: Tree, S: Sink, P: Spawner> Session<N, T, S, P> {
-    /// A session that begins with this on its screen, over devices of which nothing was taken and to which nothing was given yet.
+    /// A session that begins with this on its screen, over devices of which nothing was taken and to
+    /// which nothing was given yet.
     pub fn new(
         alloc: Global,
         tree: T,

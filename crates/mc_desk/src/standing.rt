@@ -3,7 +3,8 @@ ghost use Rattle.std.specs.Prelude.{◌≡◌, true, false, None};
 ghost use Rattle.std.specs.Option.{option_map};
 ghost use Rattle.copy_move.specs.Jobs.{MayAnswer, answered_job, closed_job};
 ghost use Rattle.mc_desk.specs.Tallies.{can_step, next_id as number_after};
-ghost use Rattle.mc_desk.specs.Standings.{MayCarryOut, after_deed, after_look, after_start, awaited_look, awaited_by, closed_standing, event_of, fresh_standing, is_quit};
+ghost use Rattle.mc_desk.specs.Standings.{MayCarryOut, after_deed, after_look, after_start, awaited_look};
+ghost use Rattle.mc_desk.specs.Standings.{awaited_by, closed_standing, event_of, fresh_standing, is_quit};
 
 use crate::confirmed::Confirmed;
 use crate::granting::Deed;
@@ -148,7 +149,10 @@ impl Standing {
 
     /// A look was taken: the job's end was seen, and only a job that can be stepped still is due.
     pub fn look_taken(&mut self)
-        ensures { self.new ≡ record self.old { has_unseen_end = false; due = after_look (can_step self.old.job) self.old.due } }
+        ensures { self.new ≡ record self.old {
+          has_unseen_end = false;
+          due = after_look (can_step self.old.job) self.old.due;
+        } }
     {
         let due = due_after(self.due, can_step(&self.job));
         self.has_unseen_end = false;

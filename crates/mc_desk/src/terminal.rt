@@ -61,7 +61,8 @@ impl<N: Tag, S: Sink> SessionTerminal<N, S> {
         }
     }
 
-    /// Draws the frame of the screen while this job is live. A drawing for which there is no memory puts nothing.
+    /// Draws the frame of the screen while this job is live. A drawing for which there
+    /// is no memory puts nothing.
     pub fn show(
         &mut self,
         alloc: Global,
@@ -71,7 +72,8 @@ impl<N: Tag, S: Sink> SessionTerminal<N, S> {
     ) -> Result<(), SinkError>
         requires uncut { self.old.put.is_cut ≡ false }
         requires size { FitsScreen self.old.display.grid ui.now }
-        ensures shows { ShowsFrame (frame_of ui.now (rows_for job.now (waits_told log.now.newest))) result self.old self.new }
+        ensures shows { ShowsFrame (frame_of ui.now (rows_for job.now (waits_told log.now.newest))) result
+            self.old self.new }
     {
         let Ok(rows) = rows_of(alloc, job, log) else {
             self.cut_short();

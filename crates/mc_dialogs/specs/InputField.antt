@@ -1,5 +1,5 @@
--- How an input line is painted: a box whose second line is the field. The field shows the text around the cursor, whose cell
--- is in reverse. Own.
+-- How an input line is painted: a box whose second line is the field. The field shows the text around the
+-- cursor, whose cell is in reverse. Own.
 use Rattle.std.specs.Prelude.{ℕ, ◌+◌, ◌-◌, true, nat_le, if◌then◌else◌, List, [], ◌∷◌}
 use Rattle.std.specs.List.{sum_by}
 use Rattle.unicode_segmentation.specs.Grapheme.{graphemes}
@@ -19,10 +19,11 @@ left_out room (cluster ∷ rest) =
 
 -- what a field shows before the cursor: the end of the drawn text that leaves a column for the cursor
 abbrev pub shown_before : List ℕ → ℕ → List ℕ
-shown_before before inside = later_clusters (left_out (inside - 1) (graphemes true (drawn_text before))) (drawn_text before)
+shown_before before inside =
+    later_clusters (left_out (inside - 1) (graphemes true (drawn_text before))) (drawn_text before)
 
--- A field of so many columns, from a cell on. What it shows from the cursor on fills the columns that are left, and the first
--- cluster of that is in reverse.
+-- A field of so many columns, from a cell on. What it shows from the cursor on fills the columns that are
+-- left, and the first cluster of that is in reverse.
 abbrev pub with_field : CellGrid → ℕ → ℕ → ℕ → List ℕ → List ℕ → CellGrid
 with_field grid row column inside before behind =
     let start = shown_before before inside in

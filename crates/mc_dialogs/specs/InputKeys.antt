@@ -1,11 +1,14 @@
--- The line that asks for a text, and what it makes of a key (mc(1), "Input Line Keys"). Clusters are the extended grapheme
--- clusters of UAX #29; the text before the cursor and that behind it are cut into clusters apart.
-use Rattle.std.specs.Prelude.{ℕ, ◌+◌, ◌-◌, Bool, true, false, ◌==◌, ◌||◌, nat_le, if◌then◌else◌, List, [], ◌++◌, length, take, drop}
+-- The line that asks for a text, and what it makes of a key (mc(1), "Input Line Keys"). Clusters
+-- are the extended grapheme clusters of UAX #29; the text before the cursor and that behind it are
+-- cut into clusters apart.
+use Rattle.std.specs.Prelude.{ℕ, ◌+◌, ◌-◌, Bool, true, false, ◌==◌, ◌||◌, nat_le}
+use Rattle.std.specs.Prelude.{if◌then◌else◌, List, [], ◌++◌, length, take, drop}
 use Rattle.std.specs.List.{concat}
 use Rattle.std.specs.Prelude.{encode_utf8}
 use Rattle.unicode_segmentation.specs.Grapheme.{graphemes}
 use Rattle.key_screen.specs.declared.keys.Base.{Base}
-use Rattle.key_screen.specs.declared.keys.Base.TheVariants.{Char, Ctrl, Left, Right, Home, End, Delete, Backspace, Enter}
+use Rattle.key_screen.specs.declared.keys.Base.TheVariants.{Char, Ctrl, Left, Right, Home}
+use Rattle.key_screen.specs.declared.keys.Base.TheVariants.{End, Delete, Backspace, Enter}
 use Rattle.key_screen.specs.declared.keys.Key.{Key}
 use Rattle.mc_dialogs.specs.declared.shut.Shut.{Shut}
 use Rattle.mc_dialogs.specs.declared.shut.Shut.TheVariants.{Stay, Closed}
@@ -65,7 +68,8 @@ input_typed s (Ctrl letter) = controlled_input s letter
 input_typed s Backspace = record s { before = all_but_last s.before }
 input_typed s Delete = record s { behind = later_clusters 1 s.behind }
 input_typed s Left = record s { before = all_but_last s.before; behind = last_cluster s.before ++ s.behind }
-input_typed s Right = record s { before = s.before ++ first_clusters 1 s.behind; behind = later_clusters 1 s.behind }
+input_typed s Right =
+    record s { before = s.before ++ first_clusters 1 s.behind; behind = later_clusters 1 s.behind }
 input_typed s Home = at_start s
 input_typed s End = at_end s
 input_typed s base = s
@@ -91,7 +95,8 @@ input_closed s base = if cancels base then Closed Cancel else Stay
 abbrev pub input_shut : InputState → Key → Shut
 input_shut s key = if key.meta then input_meta s key.base else input_closed s key.base
 
--- Which keys take memory: those that put a character, move the cursor or delete by clusters, and those that close with the text.
+-- Which keys take memory: those that put a character, move the cursor or delete by clusters, and those
+-- that close with the text.
 abbrev pub letter_takes_memory : ℕ → Bool
 letter_takes_memory letter = letter == 97 || letter == 101
 

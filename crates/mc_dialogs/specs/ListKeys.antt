@@ -1,5 +1,7 @@
--- The box that lists rows, of which one is current, and what it makes of a key. Own, after the listboxes of mc(1).
-use Rattle.std.specs.Prelude.{ℕ, ◌+◌, ◌-◌, min, Bool, true, false, ◌==◌, ◌&&◌, nat_lt, nat_le, if◌then◌else◌, List, [], ◌∷◌, length, take, drop, Option, Some, None}
+-- The box that lists rows, of which one is current, and what it makes of a key. Own,
+-- after the listboxes of mc(1).
+use Rattle.std.specs.Prelude.{ℕ, ◌+◌, ◌-◌, min, Bool, true, false, ◌==◌, ◌&&◌, nat_lt, nat_le}
+use Rattle.std.specs.Prelude.{if◌then◌else◌, List, [], ◌∷◌, length, take, drop, Option, Some, None}
 use Rattle.std.specs.Str.{chars}
 use Rattle.key_screen.specs.declared.keys.Base.{Base}
 use Rattle.key_screen.specs.declared.keys.Base.TheVariants.{Char, Enter, Up, Down, Home, End, PgUp, PgDn}
@@ -12,8 +14,8 @@ use Rattle.key_screen.specs.declared.cells.Attr.TheVariants.{Plain, Reverse}
 use Rattle.mc_dialogs.specs.declared.frame.Line.{Line}
 use Rattle.mc_dialogs.specs.CommonKeys.{cancels}
 
--- a list box: its title and rows, the lines of its screen, whether letters choose, the position of the current row, and
--- that of the first one shown
+-- a list box: its title and rows, the lines of its screen, whether letters choose, the position of the
+-- current row, and that of the first one shown
 pub record ListState : Type 0 where
   pub title : List ℕ
   pub rows : List (List ℕ)
@@ -80,7 +82,8 @@ list_shut s key = if key.meta then Stay else list_closed s key.base
 abbrev pub rows_shown : ℕ → ℕ → List (List ℕ) → List Line
 rows_shown position current [] = []
 rows_shown position current (row ∷ rows) =
-    record { text = row; attr = (if position == current then Reverse else Plain) } ∷ rows_shown (position + 1) current rows
+    record { text = row; attr = (if position == current then Reverse else Plain) }
+    ∷ rows_shown (position + 1) current rows
 
 -- the lines of a list: its title, and some of its rows, of which the first has this position
 abbrev pub titled_rows : List ℕ → ℕ → ℕ → List (List ℕ) → List Line

@@ -45,7 +45,8 @@ octal_digit n = 48 + n % 8
 
 -- four octal digits
 abbrev pub octal : ℕ → List ℕ
-octal mode = octal_digit (mode / 512) ∷ octal_digit (mode / 64) ∷ octal_digit (mode / 8) ∷ octal_digit mode ∷ []
+octal mode =
+    octal_digit (mode / 512) ∷ octal_digit (mode / 64) ∷ octal_digit (mode / 8) ∷ octal_digit mode ∷ []
 
 -- the lines of a mode box: its title, the mode in letters as of a file, and its digits
 abbrev pub mode_lines : ModeState → List Line

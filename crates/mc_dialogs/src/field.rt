@@ -18,7 +18,8 @@ pub fn paint_field_box(
     before: &str,
     behind: &str,
 ) -> Result<(), NoMemory>
-    ensures { OnOk result (grid.new ≡ with_input grid.old (record { title = title.now; before = before.now; behind = behind.now })) }
+    ensures { OnOk result (grid.new
+        ≡ with_input grid.old (record { title = title.now; before = before.now; behind = behind.now })) }
 {
     let place = place_of_field(grid);
     let lines = box_lines(alloc, title)?;
@@ -69,7 +70,8 @@ fn write_field(
 ) -> Result<(), NoMemory>
     requires column { place.column < 2 ^ 17 }
     requires inside { place.inside < 2 ^ 17 }
-    ensures { OnOk result (grid.new ≡ with_field grid.old place.row place.column place.inside before.now behind.now) }
+    ensures { OnOk result
+        (grid.new ≡ with_field grid.old place.row place.column place.inside before.now behind.now) }
 {
     let start = start_of(alloc, before, place.inside)?;
     let room = place.inside.saturating_sub(columns_of(start.as_str()));

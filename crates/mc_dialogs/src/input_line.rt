@@ -1,6 +1,11 @@
 //! The line that asks for a text.
-ghost use Rattle.std.specs.Prelude.{◌≡◌, ◌++◌, ◌+◌, [], true, false, Ok, length, string_bytes, encode_utf8, nat_le, IfOk, OnOk, OnErr};
-ghost use Rattle.mc_dialogs.specs.InputKeys.{first_clusters, later_clusters, all_but_last, last_cluster, with_char, at_start, at_end, controlled_input, input_typed, input_after, closed_with, input_meta, input_closed, input_shut, letter_takes_memory, plain_takes_memory, meta_takes_memory, takes_memory};
+ghost use Rattle.std.specs.Prelude.{◌≡◌, ◌++◌, ◌+◌, [], true, false, Ok, length};
+ghost use Rattle.std.specs.Prelude.{string_bytes, encode_utf8, nat_le, IfOk, OnOk, OnErr};
+ghost use Rattle.mc_dialogs.specs.InputKeys.{first_clusters, later_clusters, all_but_last};
+ghost use Rattle.mc_dialogs.specs.InputKeys.{last_cluster, with_char, at_start, at_end};
+ghost use Rattle.mc_dialogs.specs.InputKeys.{controlled_input, input_typed, input_after, closed_with};
+ghost use Rattle.mc_dialogs.specs.InputKeys.{input_meta, input_closed, input_shut, letter_takes_memory};
+ghost use Rattle.mc_dialogs.specs.InputKeys.{plain_takes_memory, meta_takes_memory, takes_memory};
 ghost use Rattle.mc_dialogs.specs.InputField.{with_input};
 
 use crate::clusters::{before_last, first_clusters, joined, later_clusters};
@@ -29,13 +34,18 @@ impl Model for InputLine {
 
     ghost Value = { InputState };
 
-    ghost view = { λ l. record { title = l.title; before = string_bytes l.before; behind = string_bytes l.behind } };
+    ghost view = { λ l. record {
+      title = l.title;
+      before = string_bytes l.before;
+      behind = string_bytes l.behind;
+    } };
 }
 
 impl InputLine {
     /// A line with this title and text, the cursor at the end of the text.
     pub fn new(alloc: Global, title: &str, text: &str) -> Result<InputLine, NoMemory>
-        ensures { IfOk result (λ asked. asked ≡ record { title = title.now; before = text.now; behind = [] }) }
+        ensures { IfOk result
+            (λ asked. asked ≡ record { title = title.now; before = text.now; behind = [] }) }
     {
         Ok(InputLine {
             title: Text::from_str(alloc, title)?,
@@ -44,7 +54,8 @@ impl InputLine {
         })
     }
 
-    /// What it answers to a key. Where memory is wanting it stays as it was; only some keys take any, and Escape and F10 take none.
+    /// What it answers to a key. Where memory is wanting it stays as it was; only some keys take any, and
+    /// Escape and F10 take none.
     pub fn key(&mut self, alloc: Global, key: Key) -> Result<Shut, NoMemory>
         ensures state { OnOk result (self.new ≡ input_after self.old key) }
         ensures shut { IfOk result (λ shut. shut ≡ input_shut self.old key) }
@@ -162,7 +173,8 @@ impl InputLine {
 
     /// Deletes the cluster behind the cursor.
     fn delete_behind(&mut self, alloc: Global) -> Result<(), NoMemory>
-        ensures done { OnOk result (self.new ≡ record self.old { behind = later_clusters 1 self.old.behind }) }
+        ensures done { OnOk result
+            (self.new ≡ record self.old { behind = later_clusters 1 self.old.behind }) }
         ensures refused { OnErr result (self.new ≡ self.old) }
     {
         let rest = later_clusters(alloc, self.behind.as_str(), 1)?;

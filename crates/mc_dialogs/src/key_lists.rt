@@ -16,12 +16,14 @@ use mc_text::NoMemory;
 use std::alloc::Global;
 
 impl InputLine {
-    /// What it answers to a list of keys, up to the first that closes it. Where memory is wanting for one of them, those before
-    /// that one are done.
+    /// What it answers to a list of keys, up to the first that closes it. Where memory is wanting for one
+    /// of them, those before that one are done.
     pub fn answer(&mut self, alloc: Global, keys: &[Key]) -> Result<Shut, NoMemory>
         ensures state { OnOk result (self.new ≡ left_by InputState input_after input_shut self.old keys.now) }
-        ensures refused { OnErr result (Contains (states_before InputState input_after input_shut self.old keys.now) self.new) }
-        ensures shut { IfOk result (λ shut. shut ≡ answer_of InputState input_after input_shut self.old keys.now) }
+        ensures refused { OnErr result
+            (Contains (states_before InputState input_after input_shut self.old keys.now) self.new) }
+        ensures shut { IfOk result
+            (λ shut. shut ≡ answer_of InputState input_after input_shut self.old keys.now) }
     {
         for key in keys {
             match self.key(alloc, *key)? {
@@ -69,7 +71,8 @@ impl QuestionBox {
     /// What it answers to a list of keys, up to the first that closes it.
     pub fn answer(&mut self, keys: &[Key]) -> Result<Shut, NoMemory>
         ensures state { self.new ≡ self.old }
-        ensures shut { result ≡ Ok (answer_of QuestionState (λ asked key. asked) question_shut self.old keys.now) }
+        ensures shut { result
+            ≡ Ok (answer_of QuestionState (λ asked key. asked) question_shut self.old keys.now) }
     {
         for key in keys {
             match self.key(*key)? {

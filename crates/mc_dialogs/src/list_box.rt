@@ -1,7 +1,9 @@
 //! The box that lists rows.
-ghost use Rattle.std.specs.Prelude.{◌≡◌, ℕ, ◌-◌, ◌+◌, ◌<◌, ◌≤◌, ◌^◌, ◌==◌, if◌then◌else◌, Some, None, length, IfOk, IfSome, OnOk};
+ghost use Rattle.std.specs.Prelude.{◌≡◌, ℕ, ◌-◌, ◌+◌, ◌<◌, ◌≤◌, ◌^◌, ◌==◌, if◌then◌else◌};
+ghost use Rattle.std.specs.Prelude.{Some, None, length, IfOk, IfSome, OnOk};
 ghost use Rattle.std.specs.Str.{chars};
-ghost use Rattle.mc_dialogs.specs.ListKeys.{moved_to, scrolled_to, first_is, chosen_by, chosen_row, list_closed, list_after, list_lines, list_shut};
+ghost use Rattle.mc_dialogs.specs.ListKeys.{moved_to, scrolled_to, first_is, chosen_by, chosen_row};
+ghost use Rattle.mc_dialogs.specs.ListKeys.{list_closed, list_after, list_lines, list_shut};
 ghost use Rattle.mc_dialogs.specs.Boxes.{with_box};
 
 use crate::list_painting::{paint_list, rows_from};
@@ -29,14 +31,22 @@ impl Model for ListBox {
 
     ghost Value = { ListState };
 
-    ghost view = { λ b. record { title = b.title; rows = b.rows; lines = b.lines; by_letter = b.by_letter; current = b.current; first = b.first } };
+    ghost view = { λ b. record {
+      title = b.title;
+      rows = b.rows;
+      lines = b.lines;
+      by_letter = b.by_letter;
+      current = b.current;
+      first = b.first;
+    } };
 
-    ghost invariant = { λ b. (b.current ≤ length b.rows - 1) × (b.first ≤ length b.rows + 1) × (b.lines < 2 ^ 16) × (length b.rows < 2 ^ 59) };
+    ghost invariant = { λ b. (b.current ≤ length b.rows - 1) × (b.first ≤ length b.rows + 1)
+        × (b.lines < 2 ^ 16) × (length b.rows < 2 ^ 59) };
 }
 
 impl ListBox {
-    /// A box with this title and these rows on a screen of so many lines, the first row current. With `letters` a
-    /// character chooses the first row that it begins.
+    /// A box with this title and these rows on a screen of so many lines, the first row current. With
+    /// `letters` a character chooses the first row that it begins.
     pub fn new(
         alloc: Global,
         title: &str,
@@ -44,7 +54,14 @@ impl ListBox {
         lines: u16,
         letters: bool,
     ) -> Result<ListBox, NoMemory>
-        ensures { IfOk result (λ asked. asked ≡ record { title = title.now; rows = rows; lines = lines; by_letter = letters; current = 0; first = 0 }) }
+        ensures { IfOk result (λ asked. asked ≡ record {
+          title = title.now;
+          rows = rows;
+          lines = lines;
+          by_letter = letters;
+          current = 0;
+          first = 0;
+        }) }
     {
         Ok(ListBox {
             title: Text::from_str(alloc, title)?,
@@ -94,8 +111,8 @@ impl ListBox {
         self.shut_by(key.base)
     }
 
-    /// Paints it over a screen; on one of the lines that it was made for all that it shows has room. Where memory is wanting, a part
-    /// of it may stand.
+    /// Paints it over a screen; on one of the lines that it was made for all that it shows has room. Where
+    /// memory is wanting, a part of it may stand.
     pub fn paint(&self, alloc: Global, grid: &mut Grid) -> Result<(), NoMemory>
         ensures { OnOk result (grid.new ≡ with_box grid.old (list_lines self.now)) }
     {

@@ -1,5 +1,6 @@
 //! How a list is painted: its title, and the rows that have room.
-ghost use Rattle.std.specs.Prelude.{◌≡◌, ◌+◌, ◌++◌, ◌==◌, ◌<◌, ◌≤◌, ◌^◌, if◌then◌else◌, length, take, drop, OnOk};
+ghost use Rattle.std.specs.Prelude.{◌≡◌, ◌+◌, ◌++◌, ◌==◌, ◌<◌, ◌≤◌, ◌^◌};
+ghost use Rattle.std.specs.Prelude.{if◌then◌else◌, length, take, drop, OnOk};
 ghost use Rattle.mc_dialogs.specs.Boxes.{with_box};
 ghost use Rattle.mc_dialogs.specs.ListKeys.{rows_shown, titled_rows};
 
@@ -8,8 +9,8 @@ use key_screen::{Attr, Grid};
 use mc_text::{NoMemory, Text};
 use std::alloc::Global;
 
-/// Paints a box with a title and some rows of a list, of which the first has this position there. The current row is in reverse. Where
-/// memory is wanting, a part of it may stand.
+/// Paints a box with a title and some rows of a list, of which the first has this position there. The
+/// current row is in reverse. Where memory is wanting, a part of it may stand.
 pub fn paint_list(
     grid: &mut Grid,
     alloc: Global,

@@ -2,7 +2,8 @@
 ghost use Rattle.std.specs.Prelude.{◌≡◌, ◌<◌, ◌≤◌, ◌%◌, IfOk, OnOk};
 ghost use Rattle.std.specs.Str.{IsUtf8};
 ghost use Rattle.mc_text.specs.Permissions.{perm_text as perm_text_of};
-ghost use Rattle.mc_dialogs.specs.ModeKeys.{shifted_in, mode_after, mode_lines, mode_shut, octal_digit, octal as octal_text};
+ghost use Rattle.mc_dialogs.specs.ModeKeys.{shifted_in, mode_after, mode_lines};
+ghost use Rattle.mc_dialogs.specs.ModeKeys.{mode_shut, octal_digit, octal as octal_text};
 ghost use Rattle.mc_dialogs.specs.Boxes.{with_box};
 
 use crate::frame::{Line, paint_box};

@@ -1,6 +1,7 @@
 //! The box that asks a question.
 ghost use Rattle.std.specs.Prelude.{◌≡◌, ◌≤◌, if◌then◌else◌, length, IfOk, OnOk};
-ghost use Rattle.mc_dialogs.specs.QuestionKeys.{is_letter_of, first_letter, letters_shut, plain_lines as lines_of, question_shut};
+ghost use Rattle.mc_dialogs.specs.QuestionKeys.{is_letter_of, first_letter, letters_shut};
+ghost use Rattle.mc_dialogs.specs.QuestionKeys.{plain_lines as lines_of, question_shut};
 ghost use Rattle.mc_dialogs.specs.Boxes.{with_box};
 
 use crate::frame::{Line, paint_box};
@@ -90,7 +91,8 @@ pub fn plain_lines(alloc: Global, texts: &[Text]) -> Result<Vec<Line>, NoMemory>
 
 /// What a character answers.
 fn letter_shut(letters: &[u8], code: char) -> Shut
-    ensures { result ≡ (if is_letter_of letters.now code then Shut.Closed (Reply.Letter code) else Shut.Stay) }
+    ensures { result
+        ≡ (if is_letter_of letters.now code then Shut.Closed (Reply.Letter code) else Shut.Stay) }
 {
     for letter in letters {
         if char::from(*letter) == code {

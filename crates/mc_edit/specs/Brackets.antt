@@ -1,17 +1,20 @@
--- Which bracket belongs to which: brackets of one kind are counted, and others are passed over. Own; mcedit(1) names the
--- key alone.
-use Rattle.std.specs.Prelude.{ℕ, ◌+◌, ◌-◌, ◌==◌, List, [], ◌∷◌, take, drop, reverse, slice_get, Option, Some, None, if◌then◌else◌}
+-- Which bracket belongs to which: brackets of one kind are counted, and others are passed over. Own;
+-- mcedit(1) names the key alone.
+use Rattle.std.specs.Prelude.{ℕ, ◌+◌, ◌-◌, ◌==◌, List, [], ◌∷◌, take, drop, reverse}
+use Rattle.std.specs.Prelude.{slice_get, Option, Some, None, if◌then◌else◌}
 
 -- what closes an opening bracket: ( by ), [ by ], { by }
 abbrev pub closing_of : ℕ → Option ℕ
-closing_of byte = if byte == 40 then Some 41 else if byte == 91 then Some 93 else if byte == 123 then Some 125 else None
+closing_of byte =
+    if byte == 40 then Some 41 else if byte == 91 then Some 93 else if byte == 123 then Some 125 else None
 
 -- what opens a closing bracket
 abbrev pub opening_of : ℕ → Option ℕ
-opening_of byte = if byte == 41 then Some 40 else if byte == 93 then Some 91 else if byte == 125 then Some 123 else None
+opening_of byte =
+    if byte == 41 then Some 40 else if byte == 93 then Some 91 else if byte == 125 then Some 123 else None
 
--- how far away the partner of a bracket is, among the bytes that lie on its way; the first of them is `away` far, and so
--- many more of the same kind are open
+-- how far away the partner of a bracket is, among the bytes that lie on its way; the first of them is
+-- `away` far, and so many more of the same kind are open
 abbrev pub partner_away : ℕ → ℕ → ℕ → ℕ → List ℕ → Option ℕ
 partner_away ours partner open_ones away [] = None
 partner_away ours partner open_ones away (byte ∷ rest) =
@@ -33,12 +36,14 @@ place_before at (Some away) = Some (at - away)
 -- the partner of a byte that is opened by another, if it is one
 abbrev pub partner_back : List ℕ → ℕ → ℕ → Option ℕ → Option ℕ
 partner_back bytes at byte None = None
-partner_back bytes at byte (Some opening) = place_before at (partner_away byte opening 0 1 (reverse (take at bytes)))
+partner_back bytes at byte (Some opening) =
+    place_before at (partner_away byte opening 0 1 (reverse (take at bytes)))
 
 -- the partner of a byte that is closed by another, or else opened by it
 abbrev pub partner_on : List ℕ → ℕ → ℕ → Option ℕ → Option ℕ
 partner_on bytes at byte None = partner_back bytes at byte (opening_of byte)
-partner_on bytes at byte (Some closing) = place_behind at (partner_away byte closing 0 1 (drop (at + 1) bytes))
+partner_on bytes at byte (Some closing) =
+    place_behind at (partner_away byte closing 0 1 (drop (at + 1) bytes))
 
 -- the partner of what stands at the place
 abbrev pub partner_of_byte : List ℕ → ℕ → Option ℕ → Option ℕ

@@ -1,4 +1,5 @@
--- The changes that an editor keeps, read as the texts that they lead between, and what always holds of an editor.
+-- The changes that an editor keeps, read as the texts that they lead between, and what
+-- always holds of an editor.
 use Rattle.std.specs.Prelude.{◌≡◌, ℕ, ◌+◌, ◌≤◌, List, [], ◌∷◌, length}
 use Rattle.gap_text.specs.UndoHistory.{UndoHistory}
 use Rattle.gap_text.specs.declared.change.Change.{Change}
@@ -8,11 +9,13 @@ use Rattle.mc_edit.specs.Edits.{Edit, spliced_bytes, largest_text, undo_depth}
 
 -- the text before a change, from the one after it: what was put in gives way to what was removed
 unfoldable pub text_before_change : Change → List ℕ → List ℕ
-text_before_change change bytes = spliced_bytes bytes change.at (change.at + length change.inserted) change.removed
+text_before_change change bytes =
+    spliced_bytes bytes change.at (change.at + length change.inserted) change.removed
 
 -- the text after a change, from the one before it
 unfoldable pub text_after_change : Change → List ℕ → List ℕ
-text_after_change change bytes = spliced_bytes bytes change.at (change.at + length change.removed) change.inserted
+text_after_change change bytes =
+    spliced_bytes bytes change.at (change.at + length change.removed) change.inserted
 
 -- a change, as the texts and points around it
 abbrev pub edit_between : Change → List ℕ → List ℕ → Edit
@@ -26,12 +29,14 @@ edit_between change old new =
 abbrev pub edits_back : List ℕ → List Change → List Edit
 edits_back bytes [] = []
 edits_back bytes (change ∷ older) =
-    edit_between change (text_before_change change bytes) bytes ∷ edits_back (text_before_change change bytes) older
+    edit_between change (text_before_change change bytes) bytes
+    ∷ edits_back (text_before_change change bytes) older
 
 -- the changes that lead on from these bytes, the next one first
 abbrev pub edits_on : List ℕ → List Change → List Edit
 edits_on bytes [] = []
-edits_on bytes (change ∷ later) = edit_between change bytes (text_after_change change bytes) ∷ edits_on (text_after_change change bytes) later
+edits_on bytes (change ∷ later) = edit_between change bytes (text_after_change change bytes)
+    ∷ edits_on (text_after_change change bytes) later
 
 -- a change leads from one text to another, and back
 pub record Leads (change : Change) (old new : List ℕ) : Type 0 where
@@ -47,12 +52,14 @@ pub record Leads (change : Change) (old new : List ℕ) : Type 0 where
 -- each change leads to the text from which the newer one led on
 abbrev pub LeadHere : List ℕ → List Change → Type 0
 LeadHere bytes [] = Unit {0}
-LeadHere bytes (change ∷ older) = Leads change (text_before_change change bytes) bytes × LeadHere (text_before_change change bytes) older
+LeadHere bytes (change ∷ older) =
+    Leads change (text_before_change change bytes) bytes × LeadHere (text_before_change change bytes) older
 
 -- each change leads on from the text to which the one before it led
 abbrev pub LeadOn : List ℕ → List Change → Type 0
 LeadOn bytes [] = Unit {0}
-LeadOn bytes (change ∷ later) = Leads change bytes (text_after_change change bytes) × LeadOn (text_after_change change bytes) later
+LeadOn bytes (change ∷ later) =
+    Leads change bytes (text_after_change change bytes) × LeadOn (text_after_change change bytes) later
 
 -- the block lies within so many bytes
 abbrev pub IsWithin : Block → ℕ → Type 0

@@ -2,8 +2,8 @@
 use Rattle.std.specs.Prelude.{ℕ, ◌+◌, nat_lt, nat_le, List, [], ◌∷◌, length, if◌then◌else◌}
 use Rattle.text_units.specs.Units.{unit_columns}
 
--- the column in which the unit that holds the place begins, or the columns of the line; the first unit begins at
--- `start`, in column `column`
+-- the column in which the unit that holds the place begins, or the columns of the line; the first unit
+-- begins at `start`, in column `column`
 abbrev pub column_of : ℕ → ℕ → ℕ → List (List ℕ) → ℕ
 column_of column start at [] = column
 column_of column start at (unit ∷ rest) =

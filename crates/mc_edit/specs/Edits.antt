@@ -1,5 +1,7 @@
--- A text that is edited: its point, its block, its past and its future. Own; mcedit(1) has undo without its rules.
-use Rattle.std.specs.Prelude.{ℕ, ◌==◌, min, max, nat_lt, Option, Some, None, List, [], ◌∷◌, ◌++◌, take, drop, length, Result, Ok, Err, if◌then◌else◌}
+-- A text that is edited: its point, its block, its past and its future. Own; mcedit(1)
+-- has undo without its rules.
+use Rattle.std.specs.Prelude.{ℕ, ◌==◌, min, max, nat_lt, Option, Some, None, List, [], ◌∷◌}
+use Rattle.std.specs.Prelude.{◌++◌, take, drop, length, Result, Ok, Err, if◌then◌else◌}
 use Rattle.std.specs.Str.{bytes_eq}
 use Rattle.gap_text.specs.PointedText.{PointedText, opened_text}
 use Rattle.mc_edit.specs.declared.block.Block.{Block}
@@ -35,8 +37,8 @@ begun_text bytes = record { text = opened_text bytes; block = Absent; past = [];
 abbrev pub spliced_bytes : List ℕ → ℕ → ℕ → List ℕ → List ℕ
 spliced_bytes bytes from to new = take from bytes ++ (new ++ drop to bytes)
 
--- a change puts what was before the past, the oldest past the depth is dropped, and so is all that was undone; no block
--- stays
+-- a change puts what was before the past, the oldest past the depth is dropped, and so is all that
+-- was undone; no block stays
 abbrev pub after_edit : PointedText → EditedText → EditedText
 after_edit new edited =
     record {

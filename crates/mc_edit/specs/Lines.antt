@@ -1,5 +1,7 @@
--- The lines of a text: where the line of a place begins and ends. A newline ends its line and belongs to no other.
-use Rattle.std.specs.Prelude.{ℕ, zero, suc, ◌+◌, ◌-◌, ◌==◌, min, Bool, not, List, length, take, drop, slice_range, if◌then◌else◌}
+-- The lines of a text: where the line of a place begins and ends. A newline ends its line
+-- and belongs to no other.
+use Rattle.std.specs.Prelude.{ℕ, zero, suc, ◌+◌, ◌-◌, ◌==◌, min, Bool, not, List}
+use Rattle.std.specs.Prelude.{length, take, drop, slice_range, if◌then◌else◌}
 use Rattle.std.specs.List.{position_or_len, suffix_len}
 
 abbrev pub is_newline : ℕ → Bool

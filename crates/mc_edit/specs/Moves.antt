@@ -23,7 +23,8 @@ column_at bytes at = column_of 0 0 (at - line_start bytes at) (units (line_at by
 
 -- the place in that column of the line that holds `within`
 abbrev pub place_at : List ℕ → ℕ → ℕ → ℕ
-place_at bytes within column = line_start bytes within + place_in_column 0 0 column (units (line_at bytes within))
+place_at bytes within column =
+    line_start bytes within + place_in_column 0 0 column (units (line_at bytes within))
 
 -- the line above, in the column of the place; in the first line it stays
 abbrev pub up_of : List ℕ → ℕ → ℕ

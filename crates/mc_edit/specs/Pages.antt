@@ -1,5 +1,6 @@
--- What is shown of a text: so many lines, from the least one from which the point's line is among them, and so many
--- columns, from the least one from which the point's column is among them. Own; mcedit(1) doesn't say what it shows.
+-- What is shown of a text: so many lines, from the least one from which the point's line is among them,
+-- and so many columns, from the least one from which the point's column is among them. Own; mcedit(1)
+-- doesn't say what it shows.
 use Rattle.std.specs.Prelude.{ℕ, zero, suc, ◌+◌, ◌-◌, ◌==◌, List, [], ◌∷◌, ◌++◌, length, if◌then◌else◌}
 use Rattle.gap_text.specs.PointedText.{PointedText}
 use Rattle.mc_edit.specs.Moves.{column_at}
@@ -22,7 +23,8 @@ abbrev pub rows_from : List ℕ → ℕ → ℕ → ℕ → ℕ → List (List �
 rows_from bytes left right zero at = []
 rows_from bytes left right (suc lines) at =
     row_at bytes left right at
-    ∷ (if line_end bytes at == length bytes then [] else rows_from bytes left right lines (line_end bytes at + 1))
+    ∷ (if line_end bytes at == length bytes then []
+    else rows_from bytes left right lines (line_end bytes at + 1))
 
 -- where the line begins that stands so many lines above the one of a place, or the first one
 abbrev pub top_of : List ℕ → ℕ → ℕ → ℕ

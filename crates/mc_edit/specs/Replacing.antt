@@ -1,5 +1,5 @@
--- What stands in a text once each place of some bytes has given way to others. Places are those that a search from left
--- to right finds when it goes on behind each (`matches` of `memchr`).
+-- What stands in a text once each place of some bytes has given way to others. Places are those that a
+-- search from left to right finds when it goes on behind each (`matches` of `memchr`).
 use Rattle.std.specs.Prelude.{ℕ, ◌+◌, List, [], ◌∷◌, ◌++◌, length, slice_range}
 
 -- what stands up to the end of the last place, from `from` on

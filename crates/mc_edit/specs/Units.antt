@@ -1,5 +1,5 @@
--- The units of a line, by which a point moves: the extended grapheme clusters of UAX #29 where the line is valid UTF-8,
--- and else its bytes (own).
+-- The units of a line, by which a point moves: the extended grapheme clusters of UAX #29 where the line is
+-- valid UTF-8, and else its bytes (own).
 use Rattle.std.specs.Prelude.{ℕ, ◌+◌, nat_lt, true, List, [], ◌∷◌, ◌++◌, map, length, if◌then◌else◌}
 use Rattle.std.specs.Str.{is_utf8}
 use Rattle.unicode_segmentation.specs.Grapheme.{graphemes}

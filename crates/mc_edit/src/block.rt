@@ -3,8 +3,8 @@ ghost use Rattle.std.specs.Prelude.{◌≡◌, ◌<◌, ◌≤◌, IfSome};
 ghost use Rattle.mc_edit.specs.Edits.{marked_at, span_between, block_span};
 ghost use Rattle.mc_edit.specs.Changes.{IsWithin};
 
-/// Where a block begins and ends. An open one ends at the point, on either side of its start; an empty one counts as
-/// none.
+/// Where a block begins and ends. An open one ends at the point, on either side of its start; an
+/// empty one counts as none.
 #[derive(Clone, Copy, Debug, PartialEq, Eq)]
 pub enum Block {
     Absent,
@@ -23,7 +23,8 @@ impl Block {
         }
     }
 
-    /// The places between which the block lies: an open one ends at the point, and an empty one counts as none.
+    /// The places between which the block lies: an open one ends at the point, and an
+    /// empty one counts as none.
     pub fn span(self, point: usize) -> Option<(usize, usize)>
         ensures value { result ≡ block_span self point }
         ensures ordered { IfSome result (λ span. span.0 < span.1) }

@@ -1,6 +1,7 @@
 //! Which bracket belongs to which.
 ghost use Rattle.std.specs.Prelude.{◌≡◌, ◌+◌, ◌≤◌, ◌<◌, take, drop, reverse, length, IfSome};
-ghost use Rattle.mc_edit.specs.Brackets.{closing_of, opening_of, partner_away, place_behind, place_before, partner_of};
+ghost use Rattle.mc_edit.specs.Brackets.{closing_of, opening_of, partner_away};
+ghost use Rattle.mc_edit.specs.Brackets.{place_behind, place_before, partner_of};
 
 use gap_text::GapText;
 

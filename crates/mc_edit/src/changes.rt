@@ -8,8 +8,8 @@ use crate::lines::slice_of;
 use gap_text::{Change, GapText};
 use mc_text::{Bytes, NoMemory};
 
-/// The bytes from one place up to another give way to new ones. It takes the time of the bytes put in, and of those
-/// between this change and the last one.
+/// The bytes from one place up to another give way to new ones. It takes the time of the bytes put in, and
+/// of those between this change and the last one.
 pub fn put(text: &mut GapText, from: usize, to: usize, new: &[u8]) -> Result<(), NoMemory>
     requires ordered { from ≤ to }
     requires within { to ≤ length text.old.bytes }

@@ -8,7 +8,8 @@ mod viewing;
 
 ghost use Rattle.std.specs.Prelude.{◌≡◌, ◌≢◌, ◌+◌, ◌≤◌, ◌<◌, [], IfOk, OnOk, IfErr, OnErr, Ok, Err, length};
 ghost use Rattle.mc_edit.specs.declared.error.EditError.TheVariants.{Memory, TooLarge};
-ghost use Rattle.mc_edit.specs.Edits.{EditedText, begun_text, largest_text, undone_by, redone_by, spliced_bytes, marked_at};
+ghost use Rattle.mc_edit.specs.Edits.{EditedText, begun_text, largest_text};
+ghost use Rattle.mc_edit.specs.Edits.{undone_by, redone_by, spliced_bytes, marked_at};
 ghost use Rattle.mc_edit.specs.Commands.{after_command};
 
 use crate::block::Block;
@@ -28,8 +29,8 @@ pub const LARGEST_TEXT: usize = 16_777_216;
 /// So many changes are kept.
 pub const UNDO_DEPTH: usize = 32_768;
 
-/// A text, the point at which it is changed, a block, and the changes that can be undone and redone. The gap of the
-/// text lies where it was changed last; the point moves without it.
+/// A text, the point at which it is changed, a block, and the changes that can be undone and redone. The
+/// gap of the text lies where it was changed last; the point moves without it.
 #[derive(Drop)]
 pub struct Editor {
     text: GapText,
@@ -175,8 +176,8 @@ impl Editor {
         Ok(())
     }
 
-    /// Carries a command out. A refused one changes nothing. It takes the time of what it changes, of the lines that
-    /// it moves over, and of the bytes between the last change and this one.
+    /// Carries a command out. A refused one changes nothing. It takes the time of what it changes, of the
+    /// lines that it moves over, and of the bytes between the last change and this one.
     pub fn command(&mut self, alloc: Global, cmd: &EditCmd) -> Result<(), EditError>
         ensures done { OnOk result (after_command cmd.now self.old ≡ Ok self.new) }
         ensures refused { IfErr result (λ error. error ≢ Memory → after_command cmd.now self.old

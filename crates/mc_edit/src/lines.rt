@@ -41,8 +41,8 @@ pub fn line_past(text: &GapText, at: usize) -> usize
     if end == text.len() { end } else { end + 1 }
 }
 
-/// Where a line begins, or the last one. Lines count from 1, and 0 counts as 1. Takes the time of a look at the newlines
-/// that are counted (`GapText::line_mark`), and then of a block.
+/// Where a line begins, or the last one. Lines count from 1, and 0 counts as 1. Takes the time of a look at
+/// the newlines that are counted (`GapText::line_mark`), and then of a block.
 pub fn start_of_line(text: &mut GapText, line: u64) -> usize
     ensures value { result ≡ start_of_line (line - 1) text.old.bytes }
     ensures high { result ≤ length text.old.bytes }

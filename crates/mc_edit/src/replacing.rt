@@ -7,14 +7,16 @@ use mc_text::{Bytes, NoMemory};
 use memchr::memmem::Finder;
 use std::alloc::Global;
 
-/// How many bytes stand up to the end of the last place once each place has given way, and where that place ended.
+/// How many bytes stand up to the end of the last place once each place has given way,
+/// and where that place ended.
 #[derive(Clone, Copy)]
 pub struct RunSize {
     pub bytes: usize,
     pub end: usize,
 }
 
-/// Measures what `replaced_run` would build, without memory. A size that no number of the machine holds is None.
+/// Measures what `replaced_run` would build, without memory. A size that no number of
+/// the machine holds is None.
 pub fn run_size(text: &[u8], what: &[u8], new: &[u8]) -> Option<RunSize>
     requires { 0 < length what.now }
     ensures bytes { IfSome result (λ size. size.bytes
@@ -45,7 +47,8 @@ fn measure(finder: &Finder<'_>, text: &[u8], width: usize, new: &[u8]) -> Option
     Some(RunSize { bytes, end })
 }
 
-/// What stands up to the end of the last place once new bytes have taken the room of each. The size is measured before.
+/// What stands up to the end of the last place once new bytes have taken the room of each. The
+/// size is measured before.
 pub fn replaced_run(
     alloc: Global,
     text: &[u8],

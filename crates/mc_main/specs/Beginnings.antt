@@ -1,5 +1,5 @@
--- How a run begins, by its words and by the folder in which it was started: with a session, or with a text that is printed in
--- place of one.
+-- How a run begins, by its words and by the folder in which it was started: with a session, or with a text
+-- that is printed in place of one.
 use Rattle.std.specs.Prelude.{◌≡◌, ℕ, List, [], ◌∷◌, ◌++◌, Option, Some, None, codes}
 use Rattle.main_words.specs.declared.words.Words.{Words}
 use Rattle.main_words.specs.declared.words.Words.TheVariants.{Panels, View, NotBuilt}
@@ -25,8 +25,8 @@ use Rattle.mc_main.specs.declared.words.Beginning.TheVariants.{Session, Print}
 unfoldable pub asked_in : List ℕ → List (List ℕ) → Option Words
 asked_in folder words = asked_by (started_in folder) words
 
--- What is printed in place of a session: the help or the version where they are asked for, and how the program is called where
--- the words are out of the profile, or for what isn't built yet.
+-- What is printed in place of a session: the help or the version where they are asked for, and how the
+-- program is called where the words are out of the profile, or for what isn't built yet.
 abbrev pub printed_for : Option Words → Option Printed
 printed_for None = Some Usage
 printed_for (Some asked.Help) = Some Help
@@ -37,11 +37,14 @@ printed_for (Some NotBuilt) = Some Usage
 
 -- how the program is called
 abbrev pub usage_line : List ℕ
-usage_line = codes "usage: mc [-b] [-V] [-h] [-P FILE] [-v FILE | -e FILE | --drill N | DIR1 [DIR2]]" ++ 10 ∷ []
+usage_line =
+    codes "usage: mc [-b] [-V] [-h] [-P FILE] [-v FILE | -e FILE | --drill N | DIR1 [DIR2]]" ++ 10 ∷ []
 
 -- what the keys do
 abbrev pub keys_line : List ℕ
-keys_line = codes "F1 help  F2 menu  F3 view  F4 edit  F5 copy  F6 move  F7 mkdir  F8 delete  F9 options  F10 quit" ++ 10 ∷ []
+keys_line =
+    codes "F1 help  F2 menu  F3 view  F4 edit  F5 copy  F6 move  F7 mkdir  F8 delete  F9 options  F10 quit"
+    ++ 10 ∷ []
 
 abbrev pub text_of : Printed → List ℕ
 text_of Usage = usage_line
@@ -56,12 +59,14 @@ status_with Version = 0
 
 -- the size of the screen, and HOME, as the surroundings say them
 unfoldable pub surroundings_in : Env → Surroundings
-surroundings_in env = let size = size_said env.lines env.columns in record { home = home_in env.home; lines = size.lines; columns = size.columns }
+surroundings_in env = let size = size_said env.lines env.columns in
+    record { home = home_in env.home; lines = size.lines; columns = size.columns }
 
 -- the words ask for a session of these paths, which were typed so
 abbrev pub AskFor : Option Words → StartMode → Typed → Type 0
 AskFor words (opens.Panels left right) (said.Panels on_left on_right) =
-    words ≡ Some (Panels (record { typed = on_left; path = left }) (record { typed = on_right; path = right }))
+    words
+    ≡ Some (Panels (record { typed = on_left; path = left }) (record { typed = on_right; path = right }))
 AskFor words (opens.Panels left right) (said.File word) = ⊥
 AskFor words (opens.View path) (said.Panels on_left on_right) = ⊥
 AskFor words (opens.View path) (said.File word) = words ≡ Some (View (record { typed = word; path = path }))
@@ -70,11 +75,13 @@ AskFor words (opens.View path) (said.File word) = words ≡ Some (View (record {
 abbrev pub IsBeginning : Surroundings → Option Words → Beginning → Type 0
 IsBeginning around words (Print printed) = printed_for words ≡ Some printed
 IsBeginning around words (Session start typed) =
-    AskFor words start.mode typed × (start.home ≡ around.home) × (start.lines ≡ around.lines) × (start.columns ≡ around.columns)
+    AskFor words start.mode typed × (start.home ≡ around.home) × (start.lines ≡ around.lines)
+    × (start.columns ≡ around.columns)
 
 -- what a session starts with in these surroundings
 abbrev pub start_with : Surroundings → StartMode → Start
-start_with around mode = record { mode = mode; home = around.home; lines = around.lines; columns = around.columns }
+start_with around mode =
+    record { mode = mode; home = around.home; lines = around.lines; columns = around.columns }
 
 -- what the session starts with that is asked for
 abbrev pub session_start : Surroundings → Option Words → Option Start
@@ -89,8 +96,8 @@ session_start around (Some NotBuilt) = None
 abbrev pub start_in : Env → List (List ℕ) → Option Start
 start_in env words = session_start (surroundings_in env) (asked_in env.folder words)
 
--- What was typed for a path of the session. One that views a file has one word, and one of panels, which views none, has the left
--- panel's in its place.
+-- What was typed for a path of the session. One that views a file has one word, and one of panels, which
+-- views none, has the left panel's in its place.
 abbrev pub word_for : StartPlace → Typed → List ℕ
 word_for place (said.File word) = word
 word_for Left (said.Panels left right) = left

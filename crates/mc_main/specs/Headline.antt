@@ -1,5 +1,6 @@
 -- What a run of the file manager promises.
-use Rattle.std.specs.Prelude.{◌≡◌, ◌≢◌, ◌⊎◌, ℕ, ◌+◌, ◌≤◌, Bool, true, false, ⊤, List, [], length, take, drop, Option, Some, None, IsSome, Result, Ok, Err, ◌++◌, ◌∷◌}
+use Rattle.std.specs.Prelude.{◌≡◌, ◌≢◌, ◌⊎◌, ℕ, ◌+◌, ◌≤◌, Bool, true, false, ⊤, List, [], length}
+use Rattle.std.specs.Prelude.{take, drop, Option, Some, None, IsSome, Result, Ok, Err, ◌++◌, ◌∷◌}
 use Rattle.std.specs.Option.{option_map}
 use Rattle.mc_text.specs.Routes.{Route}
 use Rattle.tree_trait.specs.declared.file_system.FileSystem.{FileSystem}
@@ -36,9 +37,11 @@ use Rattle.mc_main.specs.declared.words.Surroundings.{Surroundings}
 use Rattle.mc_main.specs.Beginnings.{printed_for, session_start}
 use Rattle.mc_main.specs.Printed.{MayPut}
 use Rattle.mc_main.specs.declared.session.SessionEnd.{SessionEnd}
-use Rattle.mc_main.specs.declared.session.SessionEnd.TheVariants.{Quit, KeysEnded, KeysFailed, ScreenFailed, NoMemory}
+use Rattle.mc_main.specs.declared.session.SessionEnd.TheVariants.{Quit, KeysEnded, KeysFailed}
+use Rattle.mc_main.specs.declared.session.SessionEnd.TheVariants.{ScreenFailed, NoMemory}
 
--- a run that can't be had has one of these statuses: its own, 4 where its line couldn't be printed, or 5 where memory ran out
+-- a run that can't be had has one of these statuses: its own, 4 where its line couldn't be printed,
+-- or 5 where memory ran out
 abbrev pub IsStatusOr : ℕ → ℕ → Type 0
 IsStatusOr own status = (status ≡ own) ⊎ (status ≡ 4) ⊎ (status ≡ 5)
 
@@ -62,15 +65,18 @@ RefusesStart log (Some start) status = CantStart log start → IsStatusOr 2 stat
 
 -- the statuses of a run in which no session began; 0 only where a text was asked for in its place
 abbrev pub BeginsNone : Option Words → ℕ → Type 0
-BeginsNone asked status = ((status ≡ 0) × IsSome (printed_for asked)) ⊎ ((status ≡ 1) ⊎ (status ≡ 2) ⊎ (status ≡ 4) ⊎ (status ≡ 5))
+BeginsNone asked status =
+    ((status ≡ 0) × IsSome (printed_for asked)) ⊎ ((status ≡ 1) ⊎ (status ≡ 2) ⊎ (status ≡ 4) ⊎ (status ≡ 5))
 
 -- the run ended as the screen failed, or memory ran out
 abbrev pub IsCutShort : ℕ → Type 0
 IsCutShort status = (status ≡ 4) ⊎ (status ≡ 5)
 
--- A session that starts so, where that is known. At status 0 its end was asked for, or all that the keyboard gives was
--- taken. The screen was given what it put, behind what it was given before; and a drawing was cut short only at status 4 or 5.
-pub record RanSession (folders : Option Start) (opening : Option CallLog) (faults status : ℕ) (newest : List Entry) (contents : Option CallLog) (all_taken : Type 0)
+-- A session that starts so, where that is known. At status 0 its end was asked for, or all that the
+-- keyboard gives was taken. The screen was given what it put, behind what it was given before; and a
+-- drawing was cut short only at status 4 or 5.
+pub record RanSession (folders : Option Start) (opening : Option CallLog) (faults status : ℕ)
+    (newest : List Entry) (contents : Option CallLog) (all_taken : Type 0)
     (given given_after : Option (List ℕ)) : Type 0 where
   pub asked : Bool
   pub put : Put
@@ -81,19 +87,24 @@ pub record RanSession (folders : Option Start) (opening : Option CallLog) (fault
   pub not_usage : status ≢ 1
   pub not_start : status ≢ 2
 
--- What a run wrote down, the newest first: a session at the paths that the words name; or nothing where none began, and then the
--- screen was given no more than what is printed in its place, or a prefix of that.
-abbrev pub IsRun : Surroundings → Option Words → Option CallLog → ℕ → ℕ → List Entry → Option CallLog → Type 0 → Option (List ℕ) → Option (List ℕ) → Type 0
+-- What a run wrote down, the newest first: a session at the paths that the words name; or nothing where
+-- none began, and then the screen was given no more than what is printed in its place, or a prefix of that.
+abbrev pub IsRun : Surroundings → Option Words → Option CallLog → ℕ → ℕ → List Entry → Option CallLog → Type 0
+    → Option (List ℕ) → Option (List ℕ) → Type 0
 IsRun around asked opening faults status newest contents all_taken given given_after =
-    (IsSome (session_start around asked) × RanSession (session_start around asked) opening faults status newest contents all_taken given given_after)
-    ⊎ ((newest ≡ []) × BeginsNone asked status × IfKnown given (λ before. MayPut opening around asked before given_after))
+    (IsSome (session_start around asked) × RanSession (session_start around asked) opening faults status
+    newest contents all_taken given given_after)
+    ⊎ ((newest ≡ []) × BeginsNone asked status
+    × IfKnown given (λ before. MayPut opening around asked before given_after))
 
--- Of each key that was worked, each look and each entry of a search each terminal shows, of the bytes that were put by then, the frame of
--- what the screen then showed, whatever it showed before the run; but at status 4 or 5 perhaps of the last, whose drawing was cut short.
+-- Of each key that was worked, each look and each entry of a search each terminal shows, of the bytes that
+-- were put by then, the frame of what the screen then showed, whatever it showed before the run; but at
+-- status 4 or 5 perhaps of the last, whose drawing was cut short.
 abbrev pub ShowsRun : Option Start → Option CallLog → ℕ → ℕ → List Entry → List ℕ → Type 0
 ShowsRun folders opening faults status newest put =
     (later : List Entry) (e : Entry) (older : List Entry) → newest ≡ later ++ e ∷ older → draws e.what ≡ true
-    → ShowsEntry folders opening faults e older put ⊎ (IsCutShort status × CutsEntry folders opening faults later e older put)
+    → ShowsEntry folders opening faults e older put
+    ⊎ (IsCutShort status × CutsEntry folders opening faults later e older put)
 
 -- what a keyboard that gives these bytes has left once so many were taken
 abbrev pub left_of : Option (List ℕ) → ℕ → Option (List ℕ)
@@ -103,13 +114,16 @@ left_of stream taken = option_map (drop taken) stream
 abbrev pub TookAll : Option (List ℕ) → Option (List ℕ) → Type 0
 TookAll stream left = IfKnown stream (λ bytes. left ≡ Some [])
 
--- The keys of a run are those of the bytes that its session took, the first that the keyboard gives, and the others are left. Bytes
--- behind the last key, as half of one at which the keyboard ends, complete none: they were taken, and nothing comes of them.
--- Where the run was cut short, the second of two keys that the last byte completed may lack, and one byte more may be gone.
-pub record ReadsKeys (bytes : List ℕ) (left : Option (List ℕ)) (status : ℕ) (newest : List Entry) : Type 0 where
+-- The keys of a run are those of the bytes that its session took, the first that the keyboard gives, and
+-- the others are left. Bytes behind the last key, as half of one at which the keyboard ends, complete none:
+-- they were taken, and nothing comes of them. Where the run was cut short, the second of two keys that the
+-- last byte completed may lack, and one byte more may be gone.
+pub record ReadsKeys (bytes : List ℕ) (left : Option (List ℕ)) (status : ℕ)
+    (newest : List Entry) : Type 0 where
   pub taken : ℕ
   pub some : taken ≤ length bytes
-  pub keys : ((decoded_keys (take taken bytes)).keys ≡ keys_in newest) ⊎ (LacksSecond (take taken bytes) newest × IsCutShort status)
+  pub keys : ((decoded_keys (take taken bytes)).keys ≡ keys_in newest)
+      ⊎ (LacksSecond (take taken bytes) newest × IsCutShort status)
   pub others : (left ≡ Some (drop taken bytes)) ⊎ ((left ≡ Some (drop (taken + 1) bytes)) × IsCutShort status)
 
 -- how many bytes a source gave
@@ -124,28 +138,35 @@ IsCut end = (end ≡ Some ScreenFailed) ⊎ (end ≡ Some NoMemory)
 
 -- the keyboard has left what its session didn't take; where that was cut short perhaps one byte less
 abbrev pub LeavesOthers : Option (List ℕ) → ℕ → Option SessionEnd → Option (List ℕ) → Type 0
-LeavesOthers stream taken end left = (left ≡ left_of stream taken) ⊎ ((left ≡ left_of stream (taken + 1)) × IsCut end)
+LeavesOthers stream taken end left =
+    (left ≡ left_of stream taken) ⊎ ((left ≡ left_of stream (taken + 1)) × IsCut end)
 
--- What a crash leaves, at each moment of a run, is safe, where the tree had the shape of one at the opening, with nothing
--- pending: as of the entries that stand, or with the one that is under way.
+-- What a crash leaves, at each moment of a run, is safe, where the tree had the shape of one at the
+-- opening, with nothing pending: as of the entries that stand, or with the one that is under way.
 abbrev pub IsSafeRun : CallLog → CallLog → List Entry → Type 0
 IsSafeRun opening now newest =
-    IsTree (current opening) → all_settled opening.changes ≡ true → (standing coming : List Entry) (calls : ℕ) (image : FileSystem)
+    IsTree (current opening) → all_settled opening.changes ≡ true
+    → (standing coming : List Entry) (calls : ℕ) (image : FileSystem)
     → IsMoment newest standing coming calls → IsCrashImage now (length opening.changes + calls) image
-    → IsSafe opening now standing (log_prefix opening calls now) image ⊎ IsSafe opening now coming (log_prefix opening calls now) image
+    → IsSafe opening now standing (log_prefix opening calls now) image
+    ⊎ IsSafe opening now coming (log_prefix opening calls now) image
 
--- A thing that is moved is whole at its source or at its target in one and the same image, with all that lies in it, but for parts, from the entry that tells of it on,
--- and within it, until another one tells that a change is begun.
+-- A thing that is moved is whole at its source or at its target in one and the same image, with all
+-- that lies in it, but for parts, from the entry that tells of it on, and within it, until another one
+-- tells that a change is begun.
 abbrev pub IsWholeRun : CallLog → CallLog → List Entry → Type 0
-IsWholeRun opening now newest = IsTree (current opening) → all_settled opening.changes ≡ true → LeavesWhole opening now newest
+IsWholeRun opening now newest = IsTree (current opening) → all_settled opening.changes ≡ true
+    → LeavesWhole opening now newest
 
 -- what a finished job did stays done
 abbrev pub IsFinishedRun : CallLog → CallLog → List Entry → Type 0
-IsFinishedRun opening now newest = IsTree (current opening) → all_settled opening.changes ≡ true → StaysDone opening now newest
+IsFinishedRun opening now newest = IsTree (current opening) → all_settled opening.changes ≡ true
+    → StaysDone opening now newest
 
--- Where a job is done with one of its sources, all that it was to do with it is done, but for what it passed over, and what it doesn't touch for it is as it
--- was where the job began with it; where it kept the file or the link at its target, or merged a folder with the one there, all is. So what it did with one is still so at its end, where no later one touches what
--- concerns that.
+-- Where a job is done with one of its sources, all that it was to do with it is done, but for what it
+-- passed over, and what it doesn't touch for it is as it was where the job began with it; where it kept the
+-- file or the link at its target, or merged a folder with the one there, all is. So what it did with one is
+-- still so at its end, where no later one touches what concerns that.
 pub record HasOutcomes (opening now : CallLog) (newest : List Entry) : Type 0 where
   pub done : Leaves IsOutcome opening now newest
   pub alone : LeavesAlone opening now newest
@@ -153,18 +174,23 @@ pub record HasOutcomes (opening now : CallLog) (newest : List Entry) : Type 0 wh
   pub all : LeavesAll opening now newest
 
 abbrev pub IsOutcomeRun : CallLog → CallLog → List Entry → Type 0
-IsOutcomeRun opening now newest = IsTree (current opening) → all_settled opening.changes ≡ true → HasOutcomes opening now newest
+IsOutcomeRun opening now newest = IsTree (current opening) → all_settled opening.changes ≡ true
+    → HasOutcomes opening now newest
 
--- What stands at the target of a copy or a move is replaced, kept or asked about only as was answered before; a folder that is merged is merged whole; and one that a merge has
--- emptied is removed only where nothing lies in it, and kept only where something does.
+-- What stands at the target of a copy or a move is replaced, kept or asked about only as was answered
+-- before; a folder that is merged is merged whole; and one that a merge has emptied is removed only where
+-- nothing lies in it, and kept only where something does.
 abbrev pub IsAnsweredRun : CallLog → CallLog → List Entry → Type 0
-IsAnsweredRun opening now newest = IsTree (current opening) → all_settled opening.changes ≡ true → FollowsAnswers opening now newest
+IsAnsweredRun opening now newest = IsTree (current opening) → all_settled opening.changes ≡ true
+    → FollowsAnswers opening now newest
 
 -- once a job has made its first change, nothing is in doubt on its mount but what that change names
 abbrev pub IsCalmedRun : CallLog → CallLog → List Entry → Type 0
-IsCalmedRun opening now newest = IsTree (current opening) → all_settled opening.changes ≡ true → CalmsOthers opening now newest
+IsCalmedRun opening now newest = IsTree (current opening) → all_settled opening.changes ≡ true
+    → CalmsOthers opening now newest
 
--- The log goes on from the opening, and what can be seen at its end is at each path what the history makes of the opening.
+-- The log goes on from the opening, and what can be seen at its end is at each path what the
+-- history makes of the opening.
 pub record ShowsAll (opening : CallLog) (newest : List Entry) (now : CallLog) : Type 0 where
   pub base : now.opening ≡ opening.opening
   pub tree : IsTree (current now)
@@ -172,18 +198,19 @@ pub record ShowsAll (opening : CallLog) (newest : List Entry) (now : CallLog) : 
 
 -- so it is at the end of a run, where no job is live
 abbrev pub IsReplayedRun : CallLog → CallLog → List Entry → Type 0
-IsReplayedRun opening now newest = IsTree (current opening) → all_settled opening.changes ≡ true → ShowsAll opening newest now
+IsReplayedRun opening now newest = IsTree (current opening) → all_settled opening.changes ≡ true
+    → ShowsAll opening newest now
 
--- Where the words name paths that lead to folders which can be listed, or to a file which can be read, and no device failed, the
--- status is 0, or 5 where memory ran out.
+-- Where the words name paths that lead to folders which can be listed, or to a file which can be read, and
+-- no device failed, the status is 0, or 5 where memory ran out.
 abbrev pub IsComplete : CallLog → Option Start → ℕ → Type 0 → Type 0
 IsComplete log None status failed = ⊤
 IsComplete log (Some start) status failed =
     CanStart (current log) start.mode → (failed → ⊥) → (status ≡ 0) ⊎ (status ≡ 5)
 
--- The status of a session. A key that was lost makes it 5. Else it is 3 exactly where the keyboard failed, 4 only where the
--- screen did, and 0 only at the quit key or the end of the keys, where the screen never failed; so it is never 0 where the
--- session failed.
+-- The status of a session. A key that was lost makes it 5. Else it is 3 exactly where the keyboard failed,
+-- 4 only where the screen did, and 0 only at the quit key or the end of the keys, where the screen never
+-- failed; so it is never 0 where the session failed.
 pub record IsStatusOf (end : SessionEnd) (screen_failed key_lost : Bool) (status : ℕ) : Type 0 where
   pub lost : key_lost ≡ true → status ≡ 5
   pub not_usage : status ≢ 1

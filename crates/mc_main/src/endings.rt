@@ -1,5 +1,6 @@
 //! How a run ends: after its session, or before one began.
-ghost use Rattle.std.specs.Prelude.{◌≡◌, ◌≢◌, ◌≤◌, ◌<◌, ◌++◌, [], true, IfOk, Option, None, Some, reverse, string_bytes};
+ghost use Rattle.std.specs.Prelude.{◌≡◌, ◌≢◌, ◌≤◌, ◌<◌, ◌++◌, [], true, IfOk};
+ghost use Rattle.std.specs.Prelude.{Option, None, Some, reverse, string_bytes};
 ghost use Rattle.tree_trait.specs.Answers.{IfKnown, HasRisen};
 ghost use Rattle.laws_sessions.specs.ToldJob.{live_job};
 ghost use Rattle.laws_sessions.specs.Traces.{IsTracedTo};
@@ -28,12 +29,14 @@ pub fn run_desk<N: Tag, T: Tree, K: Source, S: Sink, P: Spawner, C: Clock>(
 ) -> Outcome<T, S, P>
     requires fresh { IsFresh desk }
     requires stream { K.left keys.old ≡ N.stream }
-    ensures session { RanSession N.start N.opening N.tree_faults result.status (reverse result.history.entries) (T.contents result.tree)
+    ensures session { RanSession N.start N.opening N.tree_faults result.status
+        (reverse result.history.entries) (T.contents result.tree)
         (TookAll N.stream (K.left keys.new)) N.given (S.given result.screen) }
     ensures traced { IsTracedTo N.opening (T.contents result.tree) (reverse result.history.entries) }
     ensures idle { live_job (reverse result.history.entries) ≡ None }
     ensures counted { result.history.started ≡ jobs_begun result.history.entries }
-    ensures keys { IfKnown N.stream (λ bytes. ReadsKeys bytes (K.left keys.new) result.status (reverse result.history.entries)) }
+    ensures keys { IfKnown N.stream (λ bytes.
+        ReadsKeys bytes (K.left keys.new) result.status (reverse result.history.entries)) }
     ensures lost { has_lost (reverse result.history.entries) ≡ true → result.status ≡ 5 }
     ensures statuses { result.status ≤ 5 }
     ensures not_usage { result.status ≢ 1 }
@@ -41,7 +44,8 @@ pub fn run_desk<N: Tag, T: Tree, K: Source, S: Sink, P: Spawner, C: Clock>(
     ensures keyboard { result.status ≡ 3 → HasRisen (K.fault_count keys.old) (K.fault_count keys.new) }
     ensures screen { result.status ≡ 4 → HasRisen N.sink_faults (S.fault_count result.screen) }
     ensures faults { faults_in N.tree_faults (reverse result.history.entries) ≤ T.fault_count result.tree }
-    ensures commands { RanNothing N.runs (P.runs result.spawner) N.spawner_faults (P.fault_count result.spawner) }
+    ensures commands { RanNothing N.runs (P.runs result.spawner) N.spawner_faults
+        (P.fault_count result.spawner) }
 {
     let mut desk = desk;
     let end = run_session(alloc, &mut desk, keys, clock);
@@ -87,8 +91,10 @@ pub fn refuse<T, S: Sink, P>(
     spawner: P,
 ) -> Outcome<T, S, P>
     ensures status { IsStatusOr status result.status }
-    ensures screen { status ≢ 4 → result.status ≡ 4 → HasRisen (S.fault_count screen) (S.fault_count result.screen) }
-    ensures line { result.status < 4 → IfKnown (S.given screen) (λ before. S.given result.screen ≡ Some (before ++ line.now)) }
+    ensures screen { status ≢ 4 → result.status ≡ 4
+        → HasRisen (S.fault_count screen) (S.fault_count result.screen) }
+    ensures line { result.status < 4
+        → IfKnown (S.given screen) (λ before. S.given result.screen ≡ Some (before ++ line.now)) }
     ensures put { IfKnown (S.given screen) (λ before. PutsSome before line.now (S.given result.screen)) }
     ensures tree { result.tree ≡ tree }
     ensures spawner { result.spawner ≡ spawner }
@@ -104,8 +110,8 @@ pub fn refuse<T, S: Sink, P>(
     without_session(alloc, status, tree, screen, spawner)
 }
 
-/// Ends a run of which a path was refused: the line names it as it was typed, drawn so that no control character reaches the
-/// terminal, and the cause.
+/// Ends a run of which a path was refused: the line names it as it was typed, drawn so that no control
+/// character reaches the terminal, and the cause.
 pub fn refuse_start<T, S: Sink, P>(
     alloc: Global,
     typed: &Typed,
@@ -115,8 +121,10 @@ pub fn refuse_start<T, S: Sink, P>(
     ensures cause { result.status ≡ 2 → refused.error ≢ StartError.Memory }
     ensures line { result.status ≡ 2 → IfKnown (S.given refused.screen) (λ before.
         PrintsCause typed.now refused.error before (S.given result.screen)) }
-    ensures put { IfKnown (S.given refused.screen) (λ before. MayPutCause typed.now refused.error before (S.given result.screen)) }
-    ensures screen { result.status ≡ 4 → HasRisen (S.fault_count refused.screen) (S.fault_count result.screen) }
+    ensures put { IfKnown (S.given refused.screen) (λ before.
+        MayPutCause typed.now refused.error before (S.given result.screen)) }
+    ensures screen { result.status ≡ 4
+        → HasRisen (S.fault_count refused.screen) (S.fault_count result.screen) }
     ensures tree { result.tree ≡ refused.tree }
     ensures spawner { result.spawner ≡ refused.spawner }
     ensures empty { result.history.entries ≡ [] }

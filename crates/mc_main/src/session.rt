@@ -1,4 +1,5 @@
-//! A session: keys are taken one byte at a time, and after each the job or the search that it began is worked.
+//! A session: keys are taken one byte at a time, and after each the job or the search
+//! that it began is worked.
 ghost use Rattle.std.specs.Prelude.{◌≡◌, ◌≤◌, true, false, None, Some, IfOk, IfNone, OnOk, slice_get};
 ghost use Rattle.tree_trait.specs.Answers.{HasRisen, HasCause, IfKnown};
 ghost use Rattle.mc_desk.specs.Desks.{IsFresh, KeepsKeys, is_over, seeks};
@@ -29,7 +30,8 @@ pub fn run_session<N: Tag, T: Tree, K: Source, S: Sink, P: Spawner, C: Clock>(
 ) -> SessionEnd
     requires fresh { IsFresh desk.old }
     requires stream { K.left keys.old ≡ N.stream }
-    ensures keys_failed { result ≡ SessionEnd.KeysFailed → HasRisen (K.fault_count keys.old) (K.fault_count keys.new) }
+    ensures keys_failed { result ≡ SessionEnd.KeysFailed
+        → HasRisen (K.fault_count keys.old) (K.fault_count keys.new) }
     ensures left { LeavesOthers N.stream desk.new.taken (Some result) (K.left keys.new) }
     ensures cut { desk.new.tally.closed ≡ true → IsCut (Some result) }
     ensures quit { result ≡ SessionEnd.Quit → desk.new.quit ≡ true }
@@ -44,7 +46,8 @@ pub fn run_session<N: Tag, T: Tree, K: Source, S: Sink, P: Spawner, C: Clock>(
     SessionEnd::NoMemory
 }
 
-/// Works what is due, makes a search to its end, then takes one byte and works its keys. The answer is the session's end, if it has come.
+/// Works what is due, makes a search to its end, then takes one byte and works its keys. The answer is the
+/// session's end, if it has come.
 fn take_turn<N: Tag, T: Tree, K: Source, S: Sink, P: Spawner, C: Clock>(
     alloc: Global,
     desk: &mut Desk<N, T, S, P>,
@@ -55,7 +58,8 @@ fn take_turn<N: Tag, T: Tree, K: Source, S: Sink, P: Spawner, C: Clock>(
     requires left { K.left keys.old ≡ left_of N.stream desk.old.taken }
     ensures goes_on { IfNone result (is_over desk.new ≡ false) }
     ensures later { K.fault_count keys.old ≤ K.fault_count keys.new }
-    ensures keys_failed { result ≡ Some SessionEnd.KeysFailed → HasRisen (K.fault_count keys.old) (K.fault_count keys.new) }
+    ensures keys_failed { result ≡ Some SessionEnd.KeysFailed
+        → HasRisen (K.fault_count keys.old) (K.fault_count keys.new) }
     ensures left { LeavesOthers N.stream desk.new.taken result (K.left keys.new) }
     ensures cut { desk.new.tally.closed ≡ true → IsCut result }
     ensures quit { result ≡ Some SessionEnd.Quit → desk.new.quit ≡ true }
@@ -79,7 +83,8 @@ fn take_turn<N: Tag, T: Tree, K: Source, S: Sink, P: Spawner, C: Clock>(
     }
 }
 
-/// Takes one byte, or none at the end of the keys. It may wait, so on the desk nothing is due, and no search goes on.
+/// Takes one byte, or none at the end of the keys. It may wait, so on the desk nothing is
+/// due, and no search goes on.
 fn take_byte<N: Tag, T: Tree, K: Source, S: Sink, P: Spawner>(
     _desk: &Desk<N, T, S, P>,
     keys: &mut K,

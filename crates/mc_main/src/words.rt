@@ -1,6 +1,7 @@
 //! How a run begins, by its words.
 ghost use Rattle.std.specs.Prelude.{◌≡◌, ◌<◌, Some, IfOk};
-ghost use Rattle.mc_main.specs.Beginnings.{IsBeginning, asked_in, start_with, status_with, surroundings_in, text_of, word_for as word_of};
+ghost use Rattle.mc_main.specs.Beginnings.{IsBeginning, asked_in, start_with, status_with};
+ghost use Rattle.mc_main.specs.Beginnings.{surroundings_in, text_of, word_for as word_of};
 
 use crate::run::Env;
 use main_words::{Size, Words, WordsError, home_folder, read_words, started_folder};
@@ -27,7 +28,9 @@ impl Printed {
                 "usage: mc [-b] [-V] [-h] [-P FILE] [-v FILE | -e FILE | --drill N | DIR1 [DIR2]]\n"
             }
             Printed::Help => {
-                "usage: mc [-b] [-V] [-h] [-P FILE] [-v FILE | -e FILE | --drill N | DIR1 [DIR2]]\nF1 help  F2 menu  F3 view  F4 edit  F5 copy  F6 move  F7 mkdir  F8 delete  F9 options  F10 quit\n"
+                "usage: mc [-b] [-V] [-h] [-P FILE] [-v FILE | -e FILE | --drill N | DIR1 [DIR2]]\n\
+                 F1 help  F2 menu  F3 view  F4 edit  F5 copy  F6 move  F7 mkdir  F8 delete  F9 options  F10 \
+                 quit\n"
             }
             Printed::Version => "mc profile 1\n",
         }
@@ -45,7 +48,8 @@ impl Printed {
     }
 }
 
-/// What the surroundings of a run say: for what a typed tilde stands, where that is known, and the size of the screen.
+/// What the surroundings of a run say: for what a typed tilde stands, where that is known,
+/// and the size of the screen.
 #[derive(Debug, Drop)]
 pub struct Surroundings {
     pub home: Option<Path>,
@@ -85,7 +89,8 @@ pub enum Beginning {
 
 /// How a run on these words begins.
 pub fn beginning_of(alloc: Global, words: &[Text], env: &Env) -> Result<Beginning, NoMemory>
-    ensures { IfOk result (λ beginning. IsBeginning (surroundings_in env.now) (asked_in env.now.folder words.now) beginning) }
+    ensures { IfOk result
+        (λ beginning. IsBeginning (surroundings_in env.now) (asked_in env.now.folder words.now) beginning) }
 {
     let started = started_folder(alloc, env.folder.0.as_str())?;
     let around = surroundings_of(alloc, env)?;

@@ -1,5 +1,5 @@
--- The date and the time of day, in UTC, of a number of seconds since the Epoch (POSIX.1-2017, 4.16), in the Gregorian
--- calendar as `jiff` counts its days.
+-- The date and the time of day, in UTC, of a number of seconds since the Epoch (POSIX.1-2017, 4.16), in the
+-- Gregorian calendar as `jiff` counts its days.
 use Rattle.std.specs.Prelude.{ℕ, zero, suc, ◌+◌, ◌-◌, ◌/◌, ◌%◌, ◌<◌, ◌≤◌, Bool, nat_le, pos, if◌then◌else◌}
 use Rattle.jiff_core.specs.Calendar.{day_count}
 use Rattle.mc_text.specs.declared.times.CivilTime.{CivilTime}

@@ -1,6 +1,7 @@
--- A text in a number of columns (own). Clusters are the extended grapheme clusters of UAX #29, and the columns of one are
--- those that UAX #11 gives its text.
-use Rattle.std.specs.Prelude.{◌≡◌, ℕ, ◌+◌, ◌-◌, ◌<◌, ◌≤◌, nat_le, nat_eq, List, [], ◌∷◌, ◌++◌, length, take, replicate, true, false, if◌then◌else◌}
+-- A text in a number of columns (own). Clusters are the extended grapheme clusters of UAX #29, and the
+-- columns of one are those that UAX #11 gives its text.
+use Rattle.std.specs.Prelude.{◌≡◌, ℕ, ◌+◌, ◌-◌, ◌<◌, ◌≤◌, nat_le, nat_eq, List, [], ◌∷◌}
+use Rattle.std.specs.Prelude.{◌++◌, length, take, replicate, true, false, if◌then◌else◌}
 use Rattle.std.specs.List.{concat, sum_by}
 use Rattle.std.specs.Str.{chars}
 use Rattle.unicode_width.specs.Width.{str_width}
@@ -18,13 +19,15 @@ columns_in text = sum_by cluster_columns (graphemes true text)
 abbrev pub run_within : ℕ → List (List ℕ) → List (List ℕ)
 run_within room [] = []
 run_within room (cluster ∷ rest) =
-    if nat_le (cluster_columns cluster) room then cluster ∷ run_within (room - cluster_columns cluster) rest else []
+    if nat_le (cluster_columns cluster) room
+    then cluster ∷ run_within (room - cluster_columns cluster) rest else []
 
 -- a run from the start that fits the room, where no longer one does
 pub record IsLongestRun (room : ℕ) (clusters run : List (List ℕ)) : Type 0 where
   pub front : run ≡ take (length run) clusters
   pub fits : sum_by cluster_columns run ≤ room
-  pub longest : (k : ℕ) → length run < k → k ≤ length clusters → room < sum_by cluster_columns (take k clusters)
+  pub longest : (k : ℕ) → length run < k → k ≤ length clusters
+      → room < sum_by cluster_columns (take k clusters)
 
 -- so many blanks
 abbrev pub blanks : ℕ → List ℕ

@@ -1,5 +1,7 @@
--- What a file name is (POSIX.1-2017, 3.170 Filename, with the limit NAME_MAX of 255 bytes and without dot and dot-dot).
-use Rattle.std.specs.Prelude.{ℕ, ◌+◌, Bool, ◌||◌, ◌==◌, nat_lt, if◌then◌else◌, List, [], ◌∷◌, length, Option, Some, None, is_some}
+-- What a file name is (POSIX.1-2017, 3.170 Filename, with the limit NAME_MAX of 255 bytes and
+-- without dot and dot-dot).
+use Rattle.std.specs.Prelude.{ℕ, ◌+◌, Bool, ◌||◌, ◌==◌, nat_lt, if◌then◌else◌}
+use Rattle.std.specs.Prelude.{List, [], ◌∷◌, length, Option, Some, None, is_some}
 use Rattle.std.specs.Str.{bytes_eq}
 use Rattle.mc_text.specs.declared.error.NameError.{NameError}
 use Rattle.mc_text.specs.declared.error.NameError.TheVariants.{Empty, TooLong, Slash, Nul, Dots}

@@ -1,5 +1,7 @@
--- Absolute paths, as lists of names (POSIX.1-2017, 3.2 Absolute Pathname and 3.271 Pathname, with PATH_MAX of 4,096).
-use Rattle.std.specs.Prelude.{ℕ, ◌+◌, Bool, true, false, ◌||◌, ◌&&◌, not, ◌==◌, nat_lt, if◌then◌else◌, List, [], ◌∷◌, ◌++◌, length, reverse, filter, Option, Some, None, is_some}
+-- Absolute paths, as lists of names (POSIX.1-2017, 3.2 Absolute Pathname and 3.271 Pathname,
+-- with PATH_MAX of 4,096).
+use Rattle.std.specs.Prelude.{ℕ, ◌+◌, Bool, true, false, ◌||◌, ◌&&◌, not, ◌==◌, nat_lt, if◌then◌else◌}
+use Rattle.std.specs.Prelude.{List, [], ◌∷◌, ◌++◌, length, reverse, filter, Option, Some, None, is_some}
 use Rattle.std.specs.List.{slice_split}
 use Rattle.std.specs.Str.{bytes_eq}
 use Rattle.std.specs.Cmp.Lexicographic.{pointwise}
@@ -7,7 +9,8 @@ use Rattle.mc_text.specs.declared.error.PathError.{PathError}
 use Rattle.mc_text.specs.declared.error.PathError.TheVariants.{NotAbsolute, TooLong, BadName}
 use Rattle.mc_text.specs.Names.{name_fault}
 
--- The names of a path, the last one first: a thing in a folder is its name before the folder's route. The root has none.
+-- The names of a path, the last one first: a thing in a folder is its name before the folder's
+-- route. The root has none.
 abbrev pub Route : Type 0
 Route = List (List ℕ)
 

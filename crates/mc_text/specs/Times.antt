@@ -1,12 +1,15 @@
--- A time as a listing shows it, as `ls -l` does it (POSIX.1-2017, ls, STDOUT; 180 days and the `?` are our own).
-use Rattle.std.specs.Prelude.{ℕ, ◌+◌, ◌-◌, ◌/◌, ◌%◌, Bool, ◌&&◌, nat_lt, nat_le, List, [], ◌∷◌, ◌++◌, codes, replicate, slice_index_or, ℤ, pos, negsuc, Option, Some, None, if◌then◌else◌}
+-- A time as a listing shows it, as `ls -l` does it (POSIX.1-2017, ls, STDOUT; 180 days
+-- and the `?` are our own).
+use Rattle.std.specs.Prelude.{ℕ, ◌+◌, ◌-◌, ◌/◌, ◌%◌, Bool, ◌&&◌, nat_lt, nat_le, List, [], ◌∷◌, ◌++◌, codes}
+use Rattle.std.specs.Prelude.{replicate, slice_index_or, ℤ, pos, negsuc, Option, Some, None, if◌then◌else◌}
 use Rattle.mc_text.specs.declared.times.CivilTime.{CivilTime}
 use Rattle.mc_text.specs.Civil.{civil_of}
 
 -- the month, from 1 to 12, in three letters
 abbrev pub month_text : ℕ → List ℕ
 month_text month =
-    slice_index_or (codes "Jan" ∷ codes "Feb" ∷ codes "Mar" ∷ codes "Apr" ∷ codes "May" ∷ codes "Jun" ∷ codes "Jul" ∷ codes "Aug" ∷ codes "Sep"
+    slice_index_or (codes "Jan" ∷ codes "Feb" ∷ codes "Mar" ∷ codes "Apr" ∷ codes "May" ∷ codes "Jun"
+    ∷ codes "Jul" ∷ codes "Aug" ∷ codes "Sep"
     ∷ codes "Oct" ∷ codes "Nov" ∷ codes "Dec" ∷ []) (month - 1) []
 
 -- a number below 100 in two decimal digits

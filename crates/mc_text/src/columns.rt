@@ -2,7 +2,8 @@
 ghost use Rattle.std.specs.Prelude.{◌≡◌, ◌+◌, ◌-◌, ◌*◌, ◌≤◌, ◌++◌, true, length, sum_by, string_bytes, IfOk};
 ghost use Rattle.std.specs.List.{concat};
 ghost use Rattle.unicode_segmentation.specs.Grapheme.{graphemes};
-ghost use Rattle.mc_text.specs.Fit.{cluster_columns, columns_in, run_within, blanks, fitted_text, IsLongestRun};
+ghost use Rattle.mc_text.specs.Fit.{cluster_columns, columns_in, run_within};
+ghost use Rattle.mc_text.specs.Fit.{blanks, fitted_text, IsLongestRun};
 
 use crate::error::NoMemory;
 use crate::text::Text;
@@ -10,8 +11,8 @@ use std::alloc::{AllocError, Global};
 use unicode_segmentation::UnicodeSegmentation;
 use unicode_width::UnicodeWidthStr;
 
-/// The text in exactly so many columns: filled with blanks, or cut between clusters and ended by `~`. With no columns
-/// it is empty.
+/// The text in exactly so many columns: filled with blanks, or cut between clusters and ended by `~`.
+/// With no columns it is empty.
 #[tactic(auto, using(crate::proofs::Runs::longest_run))]
 pub fn fit(alloc: Global, text: &str, columns: usize) -> Result<Text, NoMemory>
     ensures fitted { IfOk result (λ line. line ≡ fitted_text text.now columns) }

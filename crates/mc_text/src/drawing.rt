@@ -11,8 +11,8 @@ use crate::text::Text;
 use std::alloc::Global;
 use unicode_segmentation::UnicodeSegmentation;
 
-/// The text with a `?` in place of each grapheme cluster that holds a control character, or whose width is 0 or above
-/// 2.
+/// The text with a `?` in place of each grapheme cluster that holds a control character, or
+/// whose width is 0 or above 2.
 #[tactic(auto, using(crate::proofs::Drawables::each_is_drawable))]
 pub fn drawn(alloc: Global, text: &str) -> Result<Text, NoMemory>
     ensures drawn { IfOk result (λ line. line ≡ drawn_text text.now) }

@@ -19,7 +19,8 @@ impl<T: Drop> From<AllocFailed<T>> for NoMemory {
     }
 }
 
-/// Why a text is no file name. `TooLong` has its bytes, `Slash` and `Nul` the position of the first such byte.
+/// Why a text is no file name. `TooLong` has its bytes, `Slash` and `Nul` the
+/// position of the first such byte.
 #[derive(Clone, Copy, Debug, Drop, Error, PartialEq, Eq)]
 pub enum NameError {
     #[error("empty name")]
@@ -47,8 +48,8 @@ impl From<AllocError> for NameError {
     }
 }
 
-/// Why a text is no absolute path. `TooLong` has the bytes that the path would have, `BadName` the position of the
-/// first byte of the first component that is no name.
+/// Why a text is no absolute path. `TooLong` has the bytes that the path would have, `BadName` the position
+/// of the first byte of the first component that is no name.
 #[derive(Clone, Copy, Debug, Drop, Error, PartialEq, Eq)]
 pub enum PathError {
     #[error("not an absolute path")]

@@ -1,4 +1,5 @@
-//! A file name, as POSIX has it: not empty, at most 255 bytes, no slash, no NUL, not `.` and not `..`. It is UTF-8.
+//! A file name, as POSIX has it: not empty, at most 255 bytes, no slash, no NUL, not `.`
+//! and not `..`. It is UTF-8.
 ghost use Rattle.std.specs.Prelude.{◌≡◌, ◌≢◌, ◌+◌, ◌<◌, ◌^◌, length, None, Some, IfOk, IfErr};
 ghost use Rattle.std.specs.Str.{bytes_eq};
 ghost use Rattle.std.specs.Ordering.{nat_cmp};
@@ -64,8 +65,8 @@ impl NameText {
 }
 
 impl Name {
-    /// Reads a name. The first of the faults decides, in the order of `NameError`; of a slash and a NUL the one that
-    /// stands first.
+    /// Reads a name. The first of the faults decides, in the order of `NameError`; of a slash and a NUL
+    /// the one that stands first.
     pub fn new(alloc: Global, text: &str) -> Result<Name, NameError>
         ensures read { IfOk result (λ name. name ≡ text.now) }
         ensures sound { IfOk result (λ _. name_fault text.now ≡ None) }

@@ -1,7 +1,9 @@
 //! An absolute path: the names from the root on. Its text has at most 4,096 bytes.
-ghost use Rattle.std.specs.Prelude.{◌≡◌, ◌≢◌, ◌+◌, ◌<◌, ◌≤◌, [], ◌∷◌, length, None, Some, IsSome, reverse, option_map, option_copied, IfOk, IfErr};
+ghost use Rattle.std.specs.Prelude.{◌≡◌, ◌≢◌, ◌+◌, ◌<◌, ◌≤◌, [], ◌∷◌, length, None, Some};
+ghost use Rattle.std.specs.Prelude.{IsSome, reverse, option_map, option_copied, IfOk, IfErr};
 ghost use Rattle.mc_text.specs.Names.{name_fault};
-ghost use Rattle.mc_text.specs.Routes.{spelled_route, path_text, parent_of, last_of, same_path, is_prefix, path_fault, route_of};
+ghost use Rattle.mc_text.specs.Routes.{spelled_route, path_text, parent_of, last_of};
+ghost use Rattle.mc_text.specs.Routes.{same_path, is_prefix, path_fault, route_of};
 
 use crate::error::{NameError, NoMemory, PathError};
 use crate::name::Name;
@@ -12,8 +14,8 @@ use std::marker::Model;
 /// The most bytes that a path's text may have.
 pub const PATH_BYTES: usize = 4096;
 
-/// An absolute path. Contracts see its names, the last one first, so that a thing in a folder is its name before the
-/// folder's path.
+/// An absolute path. Contracts see its names, the last one first, so that a thing in a folder is its name
+/// before the folder's path.
 #[derive(Debug, Drop)]
 pub struct Path {
     /// From the root on.
@@ -30,7 +32,8 @@ impl Model for Path {
 
     ghost view = { λ p. reverse p.names.items };
 
-    ghost invariant = { λ p. (p.spelled_bytes ≡ length (spelled_route (reverse p.names.items))) × (p.spelled_bytes ≤ 4096) };
+    ghost invariant = { λ p. (p.spelled_bytes ≡ length (spelled_route (reverse p.names.items)))
+        × (p.spelled_bytes ≤ 4096) };
 }
 
 impl Path {
@@ -44,8 +47,9 @@ impl Path {
         }
     }
 
-    /// Reads a path: the names between its slashes, of which there may be several in a row. `NotAbsolute` where no slash
-    /// stands first, then `TooLong`, then `BadName` with the first byte of the first component that is no name.
+    /// Reads a path: the names between its slashes, of which there may be several in a row. `NotAbsolute`
+    /// where no slash stands first, then `TooLong`, then `BadName` with the first byte of the first
+    /// component that is no name.
     pub fn parse(alloc: Global, text: &str) -> Result<Path, PathError>
         ensures read { IfOk result (λ path. path ≡ route_of text.now) }
         ensures sound { IfOk result (λ _. path_fault text.now ≡ None) }
@@ -86,7 +90,8 @@ impl Path {
         ensures joined { IfOk result (λ path. path ≡ name.now ∷ self.now) }
         ensures fits { IfOk result (λ _. length (spelled_route (name.now ∷ self.now)) ≤ PATH_BYTES) }
         ensures too_long { IfErr result (λ e. e ≢ PathError.Memory
-            → (e ≡ PathError.TooLong (length (spelled_route (name.now ∷ self.now)))) × (PATH_BYTES < length (spelled_route (name.now ∷ self.now)))) }
+            → (e ≡ PathError.TooLong (length (spelled_route (name.now ∷ self.now))))
+            × (PATH_BYTES < length (spelled_route (name.now ∷ self.now)))) }
     {
         let bytes = self.spelled_bytes + 1 + name.text().len();
         if bytes > PATH_BYTES {

@@ -4,8 +4,8 @@ ghost use Rattle.mc_text.specs.Permissions.{kind_letter, has, letter, last_lette
 
 use crate::kind::Kind;
 
-/// The kind, and then the permissions of the owner, the group and others, three letters each. Bits of the mode above
-/// `0o7777` don't show.
+/// The kind, and then the permissions of the owner, the group and others, three letters each. Bits of the
+/// mode above `0o7777` don't show.
 pub fn perm_text(kind: Kind, mode: u16) -> [u8; 10]
     ensures { result ≡ perm_text kind mode }
 {
@@ -41,7 +41,8 @@ fn letter(mode: u16, bit: u16, shown: u8) -> u8
     if has(mode, bit) { shown } else { b'-' }
 }
 
-/// The letter of the right to execute. Where the special bit is set it is the small or the large letter of that bit.
+/// The letter of the right to execute. Where the special bit is set it is the small or the
+/// large letter of that bit.
 fn last_letter(mode: u16, bit: u16, special: u16, small: u8, large: u8) -> u8
     ensures { result ≡ last_letter mode bit special small large }
 {

@@ -43,8 +43,8 @@ const UNITS: [Unit; 6] = [
     },
 ];
 
-/// The size in bytes, or else in the smallest of the units K, M, G, T, P, E, rounded down, such that it fits the columns.
-/// Where these are fewer than four it has up to four bytes.
+/// The size in bytes, or else in the smallest of the units K, M, G, T, P, E, rounded down, such that it
+/// fits the columns. Where these are fewer than four it has up to four bytes.
 pub fn size_text(alloc: Global, size: u64, columns: usize) -> Result<Text, NoMemory>
     ensures text { IfOk result (λ text. text ≡ size_text size columns) }
     ensures fits { IfOk result (λ text. length text ≤ max columns ENOUGH) }

@@ -2,7 +2,8 @@
 ghost use Rattle.std.specs.Prelude.{◌≡◌, ◌≤◌, ◌<◌, ◌*◌, ◌++◌, ◌∷◌, [], pos, ◌≤ℤ◌, string_bytes, IfOk, IfSome};
 ghost use Rattle.jiff.specs.Words.{civil_nanos};
 ghost use Rattle.mc_text.specs.Civil.{civil_of, IsShownTime};
-ghost use Rattle.mc_text.specs.Times.{month_text, two_digits, two_places, four_digits, civil_text, time_text, shown_second, is_recent};
+ghost use Rattle.mc_text.specs.Times.{month_text, two_digits, two_places, four_digits};
+ghost use Rattle.mc_text.specs.Times.{civil_text, time_text, shown_second, is_recent};
 
 use crate::error::NoMemory;
 use crate::text::Text;
@@ -27,8 +28,9 @@ struct CivilTime {
     minute: u8,
 }
 
-/// A time, given as seconds since 1970, in twelve bytes: the day and month, and then the time of day where it is of the
-/// last 180 days before `now`, or else the year. A time outside the years 1970 to 2999 is twelve `?`.
+/// A time, given as seconds since 1970, in twelve bytes: the day and month, and then the time of
+/// day where it is of the last 180 days before `now`, or else the year. A time outside the years
+/// 1970 to 2999 is twelve `?`.
 pub fn time_text(alloc: Global, secs: i64, now: u64) -> Result<Text, NoMemory>
     ensures { IfOk result (λ text. text ≡ time_text secs now) }
 {

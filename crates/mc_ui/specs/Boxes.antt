@@ -11,8 +11,8 @@ use Rattle.panel_boxes.specs.declared.panel_box.PanelBox.{PanelBox}
 use Rattle.mc_ui.specs.declared.dialog.Dialog.{Dialog}
 use Rattle.mc_ui.specs.declared.dialog.Dialog.TheVariants as dialog
 
--- What stands over the panels: nothing, or a box that asks of one job or tells what it waits with, asks what the panels are to do, seeks things
--- and lists what was found, or lists the live jobs.
+-- What stands over the panels: nothing, or a box that asks of one job or tells what it waits with, asks
+-- what the panels are to do, seeks things and lists what was found, or lists the live jobs.
 pub data Box : Type 0 where
   NoBox : Box
   OneJobBox : (asks : JobBoxState) → Box

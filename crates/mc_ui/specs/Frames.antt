@@ -1,5 +1,5 @@
--- The frame of a screen: its panels with the line of jobs and the key bar, the box over them, and a message over these; or the page of a
--- file that is viewed.
+-- The frame of a screen: its panels with the line of jobs and the key bar, the box over them, and a message
+-- over these; or the page of a file that is viewed.
 use Rattle.std.specs.Prelude.{◌+◌, List, [], ◌∷◌, Option, Some, None}
 use Rattle.job_reports.specs.declared.row.JobRow.{JobRow}
 use Rattle.job_reports.specs.declared.row.JobState.{JobState}
@@ -48,7 +48,8 @@ with_message (Some message) grid = with_box grid (plain_lines (message_lines mes
 
 -- the frame of the panels, and of what stands over them, while these jobs are live
 unfoldable pub frame_below : Screen → List JobRow → CellGrid
-frame_below s rows = with_message s.message (with_over s.over rows (panels_frame s.lines s.columns (panes_of (frame_size s) s.panels) (counts_of rows)))
+frame_below s rows = with_message s.message (with_over s.over rows
+    (panels_frame s.lines s.columns (panes_of (frame_size s) s.panels) (counts_of rows)))
 
 -- a file that is viewed covers them
 abbrev pub frame_by : Option ViewedFile → Screen → List JobRow → CellGrid

@@ -9,7 +9,8 @@ use Rattle.ui_job_list.specs.JobLists.{act_by, list_by}
 use Rattle.ui_job_boxes.specs.JobBoxes.{AnswerBox}
 use Rattle.mc_ui.specs.Boxes.{Box, NoBox, OneJobBox, JobsBox}
 
--- what stands there once a key came to this: the list, in its place the box of a question or a trouble, or nothing
+-- what stands there once a key came to this: the list, in its place the box of a question
+-- or a trouble, or nothing
 abbrev pub jobs_over : JobsAct → JobList → Box
 jobs_over jobs.Stays list = JobsBox list
 jobs_over (jobs.Opens waits) list = OneJobBox (AnswerBox waits)

@@ -1,4 +1,5 @@
--- What a look takes up: what the live job waits with, and what reading the panels again comes to, after a job's end.
+-- What a look takes up: what the live job waits with, and what reading the panels again
+-- comes to, after a job's end.
 use Rattle.std.specs.Prelude.{◌≡◌, ℕ, Bool, true, false, List, [], ◌∷◌, ◌++◌, Option, None, map}
 use Rattle.tree_trait.specs.Change.{CallLog}
 use Rattle.tree_trait.specs.Answers.{IfKnown}
@@ -23,7 +24,8 @@ abbrev pub told_unread : Unread → List Refusal
 told_unread unread = map Resolve (list_of_error unread.left ++ list_of_error unread.right)
 
 -- the panels are read again, as the tree has their folders; one whose folder is refused stays as it was
-pub record ReadsAgain (contents : Option CallLog) (page : ℕ) (refusals : List Refusal) (before after : PairState) : Type 0 where
+pub record ReadsAgain (contents : Option CallLog) (page : ℕ) (refusals : List Refusal)
+    (before after : PairState) : Type 0 where
   pub unread : Unread
   pub panels : pair.LooksAgain page unread before after
   pub shows : IfKnown contents (λ log. ShowsLooks log unread before after)

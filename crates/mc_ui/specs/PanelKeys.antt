@@ -1,4 +1,5 @@
--- The keys of the panels, while no box is open (mc(1), "Directory Panels" and its M-?; F1, F3, F5 to F8 and F10 of its bottom line).
+-- The keys of the panels, while no box is open (mc(1), "Directory Panels" and its M-?; F1, F3, F5 to F8 and
+-- F10 of its bottom line).
 use Rattle.std.specs.Prelude.{ℕ, ◌==◌, if◌then◌else◌, Option, Some, None}
 use Rattle.key_screen.specs.declared.keys.Key.{Key}
 use Rattle.key_screen.specs.declared.keys.Base.{Base}
@@ -10,7 +11,8 @@ use Rattle.panel_boxes.specs.Openings.{opening_of}
 use Rattle.ui_words.specs.declared.carry.Carry.TheVariants.{Copy, Move}
 use Rattle.ui_plans.specs.declared.choosing.Opens.TheVariants.{Delete, SourceMask}
 use Rattle.mc_ui.specs.declared.panel_command.KeyCommand.{KeyCommand}
-use Rattle.mc_ui.specs.declared.panel_command.KeyCommand.TheVariants.{Work, ShowHelp, View, Open, AskFolder, OpenPanelBox, Find, Quit, Nothing}
+use Rattle.mc_ui.specs.declared.panel_command.KeyCommand.TheVariants.{Work, ShowHelp, View, Open, AskFolder}
+use Rattle.mc_ui.specs.declared.panel_command.KeyCommand.TheVariants.{OpenPanelBox, Find, Quit, Nothing}
 
 -- what a function key does
 abbrev pub function_command : ℕ → KeyCommand

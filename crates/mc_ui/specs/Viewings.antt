@@ -34,7 +34,8 @@ abbrev pub viewed_path : Subject → Option Route
 viewed_path (File path) = Some path
 viewed_path (Output bytes) = None
 
--- What the tree refused to a key of the viewer. That a search found nothing, or that a pattern is none, the viewer's own message tells.
+-- What the tree refused to a key of the viewer. That a search found nothing, or that a pattern is none, the
+-- viewer's own message tells.
 abbrev pub told_by : ViewerAct → Option Route → List Refusal
 told_by (Refused (error.Tree e)) (Some path) = Read path e ∷ []
 told_by act path = []

@@ -22,12 +22,13 @@ use std::alloc::Global;
 use ui_words::{Message, message_lines};
 
 impl Ui {
-    /// The frame of the screen while these jobs are live. It takes the time of the cells and texts on the screen and of the jobs'
-    /// rows, and goes through no more of a folder's names.
+    /// The frame of the screen while these jobs are live. It takes the time of the cells and texts on the
+    /// screen and of the jobs' rows, and goes through no more of a folder's names.
     #[tactic(auto, unfolding(crate::specs::Frames::frame_of))]
     pub fn frame(&self, alloc: Global, rows: &JobRows) -> Result<Grid, NoMemory>
         ensures frame { IfOk result (λ grid. grid ≡ frame_of self.now rows.now) }
-        ensures size { IfOk result (λ grid. (grid.lines ≡ self.now.lines) × (grid.columns ≡ self.now.columns)) }
+        ensures size { IfOk result
+            (λ grid. (grid.lines ≡ self.now.lines) × (grid.columns ≡ self.now.columns)) }
     {
         match self.viewing() {
             None => self.frame_below(alloc, rows),
@@ -39,7 +40,8 @@ impl Ui {
     #[tactic(auto, unfolding(crate::specs::Frames::frame_below))]
     fn frame_below(&self, alloc: Global, rows: &JobRows) -> Result<Grid, NoMemory>
         ensures frame { IfOk result (λ grid. grid ≡ frame_below self.now rows.now) }
-        ensures size { IfOk result (λ grid. (grid.lines ≡ self.now.lines) × (grid.columns ≡ self.now.columns)) }
+        ensures size { IfOk result
+            (λ grid. (grid.lines ≡ self.now.lines) × (grid.columns ≡ self.now.columns)) }
     {
         let mut grid = self.panel_frame(alloc, rows)?;
         paint_dialog(&mut grid, alloc, self.dialog(), rows)?;
@@ -49,8 +51,10 @@ impl Ui {
 
     /// The panels, the line of jobs and the key bar.
     fn panel_frame(&self, alloc: Global, rows: &JobRows) -> Result<Grid, NoMemory>
-        ensures frame { IfOk result (λ grid. grid ≡ panels_frame self.now.lines self.now.columns (panes_of (frame_size self.now) self.now.panels) (counts_in rows.now)) }
-        ensures size { IfOk result (λ grid. (grid.lines ≡ self.now.lines) × (grid.columns ≡ self.now.columns)) }
+        ensures frame { IfOk result (λ grid. grid ≡ panels_frame self.now.lines self.now.columns
+            (panes_of (frame_size self.now) self.now.panels) (counts_in rows.now)) }
+        ensures size { IfOk result
+            (λ grid. (grid.lines ≡ self.now.lines) × (grid.columns ≡ self.now.columns)) }
     {
         let panes = self.panels().panes(alloc, self.frame_size())?;
         let counts = counts_of(rows.0.as_slice());

@@ -1,4 +1,5 @@
-//! What stands on the screen: two panels, the box over them, a file that is viewed, and what keys and looks make of it.
+//! What stands on the screen: two panels, the box over them, a file that is viewed, and what
+//! keys and looks make of it.
 #![tactic(auto)]
 
 mod asks;

@@ -1,7 +1,9 @@
 //! The keys of the panels.
 ghost use Rattle.std.specs.Prelude.{◌≡◌};
 ghost use Rattle.panel_boxes.specs.Openings.{opening_of as opening_by};
-ghost use Rattle.mc_ui.specs.PanelKeys.{box_or_other, meta_command as command_of_meta, other_command as command_of_base, panel_command_of, plain_base as plain_base_of};
+ghost use Rattle.mc_ui.specs.PanelKeys.{box_or_other, meta_command as command_of_meta};
+ghost use Rattle.mc_ui.specs.PanelKeys.{other_command as command_of_base};
+ghost use Rattle.mc_ui.specs.PanelKeys.{panel_command_of, plain_base as plain_base_of};
 
 use key_screen::{Base, Key};
 use panel_boxes::{Opening, opening_of};

@@ -1,11 +1,14 @@
-//! What stands on the screen: two panels, the box over them, a message over these, and a file that is viewed over all.
+//! What stands on the screen: two panels, the box over them, a message over these, and a file
+//! that is viewed over all.
 ghost use Rattle.std.specs.Prelude.{◌≡◌, ◌<◌, ◌^◌, [], true, is_some, None, OnErr, IfOk};
 ghost use Rattle.mc_ui.specs.declared.asks.KeyAct.{KeyAct as KeyActType};
 ghost use Rattle.mc_ui.specs.PanelKeys.{plain_base};
 ghost use Rattle.ui_plans.specs.Reading.{ReadsTree};
 ghost use Rattle.mc_ui.specs.Boxes.{seen_box};
 ghost use Rattle.mc_ui.specs.Viewings.{LeavesUnread};
-ghost use Rattle.mc_ui.specs.Screens.{Asks, HasSameSize, KeyLeads, WorksBelow, WorksKey, after_message, at_second, frame_size, opened_screen, page_of, settled_screen as screen_settled, with_ask, with_viewer, without_box};
+ghost use Rattle.mc_ui.specs.Screens.{Asks, HasSameSize, KeyLeads, WorksBelow, WorksKey, after_message};
+ghost use Rattle.mc_ui.specs.Screens.{at_second, frame_size, opened_screen, page_of};
+ghost use Rattle.mc_ui.specs.Screens.{settled_screen as screen_settled, with_ask, with_viewer, without_box};
 
 mod find_box;
 mod job_questions;
@@ -32,7 +35,8 @@ use tree_trait::ReadTree;
 use ui_viewer::ViewerMode;
 use ui_words::{Message, closes_message};
 
-/// What the screen shows. Contracts see the panels, the second of the last key, the box, the message and the file that is viewed.
+/// What the screen shows. Contracts see the panels, the second of the last key, the box, the message and
+/// the file that is viewed.
 #[derive(Drop)]
 pub struct Ui {
     panels: Panels,
@@ -52,11 +56,22 @@ impl Model for Ui {
 
     ghost Value = { Screen };
 
-    ghost view = { λ u. record { panels = u.panels; home = u.home; lines = u.lines; columns = u.columns; second = u.second; over = seen_box u.dialog; message = u.message; viewing = u.viewing; planned = None } };
+    ghost view = { λ u. record {
+      panels = u.panels;
+      home = u.home;
+      lines = u.lines;
+      columns = u.columns;
+      second = u.second;
+      over = seen_box u.dialog;
+      message = u.message;
+      viewing = u.viewing;
+      planned = None;
+    } };
 }
 
 impl Ui {
-    /// Panels alone, on a screen of so many lines and columns, at this second of the clock. A tilde that is typed stands for HOME.
+    /// Panels alone, on a screen of so many lines and columns, at this second of the clock. A tilde that
+    /// is typed stands for HOME.
     pub fn new(panels: Panels, home: Option<Path>, lines: u16, columns: u16, second: u64) -> Ui
         ensures { result ≡ opened_screen panels home lines columns second }
     {
@@ -144,10 +159,11 @@ impl Ui {
         &self.viewing
     }
 
-    /// Works a key at a second of the clock, while these jobs are live. What was refused, the refusals say, and a message the
-    /// first of them. Where the key asks for a job, or answers one, the screen stays as it is until `settle` tells what
-    /// became of that. A key of the panels takes what its command takes, each other the time of what is on the screen, and of the
-    /// paths and texts of the box; F5, F6 and F8 go over the shown names once, and a new folder's path is looked at name by name.
+    /// Works a key at a second of the clock, while these jobs are live. What was refused, the refusals say,
+    /// and a message the first of them. Where the key asks for a job, or answers one, the screen stays as
+    /// it is until `settle` tells what became of that. A key of the panels takes what its command takes,
+    /// each other the time of what is on the screen, and of the paths and texts of the box; F5, F6 and F8
+    /// go over the shown names once, and a new folder's path is looked at name by name.
     pub fn key<T: ReadTree>(
         &mut self,
         alloc: Global,
@@ -158,12 +174,14 @@ impl Ui {
     ) -> Result<KeyAct, NoMemory>
         ensures leads { IfOk result (λ act. KeyLeads (T.contents tree.old) rows.now now key act.refusals
             self.old (with_ask act.ask self.new)) }
-        ensures asks { IfOk result (λ act. Asks rows.now act.ask act.refusals (at_second now self.old) self.new) }
+        ensures asks { IfOk result (λ act.
+            Asks rows.now act.ask act.refusals (at_second now self.old) self.new) }
         ensures size { HasSameSize self.old self.new }
         ensures settled { self.new.planned ≡ None }
         ensures still { LeavesUnread self.old.viewing key → tree.new ≡ tree.old }
         ensures lost { OnErr result (self.new ≡ self.old) }
-        ensures reads { ReadsTree (λ (act : KeyActType). act.refusals) result (T.contents tree.old) (T.contents tree.new)
+        ensures reads { ReadsTree (λ (act : KeyActType). act.refusals) result (T.contents tree.old)
+            (T.contents tree.new)
             (T.fault_count tree.old) (T.fault_count tree.new) }
     {
         let second = self.second();
@@ -192,7 +210,8 @@ impl Ui {
         ensures settled { self.new.planned ≡ None }
         ensures still { LeavesUnread self.old.viewing key → tree.new ≡ tree.old }
         ensures lost { OnErr result (self.new ≡ self.old) }
-        ensures reads { ReadsTree (λ (act : KeyActType). act.refusals) result (T.contents tree.old) (T.contents tree.new)
+        ensures reads { ReadsTree (λ (act : KeyActType). act.refusals) result (T.contents tree.old)
+            (T.contents tree.new)
             (T.fault_count tree.old) (T.fault_count tree.new) }
     {
         match self.viewing.take() {
@@ -215,7 +234,8 @@ impl Ui {
         ensures size { HasSameSize self.old self.new }
         ensures settled { self.new.planned ≡ None }
         ensures lost { OnErr result (self.new ≡ self.old) }
-        ensures reads { ReadsTree (λ (act : KeyActType). act.refusals) result (T.contents tree.old) (T.contents tree.new)
+        ensures reads { ReadsTree (λ (act : KeyActType). act.refusals) result (T.contents tree.old)
+            (T.contents tree.new)
             (T.fault_count tree.old) (T.fault_count tree.new) }
     {
         if self.has_message() {
@@ -230,8 +250,8 @@ impl Ui {
         }
     }
 
-    /// Tells what became of what the last key asked. Where it was carried out its box is shut, and where a job was begun nothing is
-    /// tagged any more; where it was refused, a message says so.
+    /// Tells what became of what the last key asked. Where it was carried out its box is shut, and where a
+    /// job was begun nothing is tagged any more; where it was refused, a message says so.
     pub fn settle(&mut self, told: Told)
         ensures settled { self.new ≡ screen_settled told self.old }
         ensures size { HasSameSize self.old self.new }

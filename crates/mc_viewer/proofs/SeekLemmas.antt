@@ -86,3 +86,6 @@ lines-further text searched bytes at count from same passed left =
     ∙ sym passed
     ∙ ap (λ t. in_lines t at 0 (drop at bytes)) same
     ∙ left
+
+-- what a reading that may fail says of what is sought
+pub ruleset readings = (missed_unread, read_error_search, unread, once_read)

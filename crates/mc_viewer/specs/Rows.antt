@@ -1,5 +1,7 @@
--- The rows of a file: where each begins (own; mc(1) says only that the viewer wraps lines and shows hexadecimal).
-use Rattle.std.specs.Prelude.{ℕ, zero, suc, ◌+◌, ◌-◌, ◌==◌, nat_le, nat_lt, min, ◌≡◌, ◌<◌, ⊤, ◌||◌, List, [], ◌∷◌, ◌++◌, length, drop, slice_index, if◌then◌else◌}
+-- The rows of a file: where each begins (own; mc(1) says only that the viewer wraps
+-- lines and shows hexadecimal).
+use Rattle.std.specs.Prelude.{ℕ, zero, suc, ◌+◌, ◌-◌, ◌==◌, nat_le, nat_lt, min, ◌≡◌, ◌<◌, ⊤}
+use Rattle.std.specs.Prelude.{◌||◌, List, [], ◌∷◌, ◌++◌, length, drop, slice_index, if◌then◌else◌}
 use Rattle.mc_viewer.specs.declared.layout.Shape.{Shape}
 use Rattle.mc_viewer.specs.declared.layout.Shape.TheVariants.{Wrapped, Unwrapped, Hex}
 use Rattle.text_units.specs.Units.{unit_columns}
@@ -15,15 +17,17 @@ abbrev pub IsLineStart : List ℕ → ℕ → Type 0
 IsLineStart bytes zero = ⊤
 IsLineStart bytes (suc before) = (before < length bytes) × (slice_index bytes before ≡ 10)
 
--- The bytes of a row of at most so many columns, with the newline that ends its line, behind units that take up the first
--- of these columns: it takes units while they have room, at least one. So many bytes more belong to the last unit taken.
+-- The bytes of a row of at most so many columns, with the newline that ends its line, behind units that
+-- take up the first of these columns: it takes units while they have room, at least one. So many bytes more
+-- belong to the last unit taken.
 unfoldable pub wrapped_length : ℕ → ℕ → ℕ → List ℕ → ℕ
 wrapped_length columns column skip [] = 0
 wrapped_length columns column (suc skip) (byte ∷ rest) = suc (wrapped_length columns column skip rest)
 wrapped_length columns column zero (byte ∷ rest) =
     if byte == 10 then 1 else
     let next = column + unit_columns column (first_unit (byte ∷ rest)) in
-    if column == 0 || nat_le next columns then suc (wrapped_length columns next (unit_length (byte ∷ rest) - 1) rest) else 0
+    if column == 0 || nat_le next columns
+    then suc (wrapped_length columns next (unit_length (byte ∷ rest) - 1) rest) else 0
 
 -- the bytes of the first row
 unfoldable pub row_length : Shape → ℕ → List ℕ → ℕ
@@ -31,7 +35,8 @@ row_length Wrapped columns bytes = wrapped_length columns 0 0 bytes
 row_length Unwrapped columns bytes = line_length bytes
 row_length Hex columns bytes = min 16 (length bytes)
 
--- the places where rows begin, in a rest of the file that begins at this one; so many bytes of it belong to a row before
+-- the places where rows begin, in a rest of the file that begins at this one; so many bytes of
+-- it belong to a row before
 unfoldable pub row_starts : Shape → ℕ → ℕ → ℕ → List ℕ → List ℕ
 row_starts shape columns at skip [] = []
 row_starts shape columns at (suc skip) (byte ∷ rest) = row_starts shape columns (at + 1) skip rest
@@ -66,7 +71,8 @@ abbrev pub AllBelow : ℕ → List ℕ → Type 0
 AllBelow at [] = ⊤
 AllBelow at (row ∷ rows) = (row < at) × AllBelow at rows
 
--- a row begins at this place, or the file ends there: the rows are those that begin before it, and those from there on
+-- a row begins at this place, or the file ends there: the rows are those that begin before
+-- it, and those from there on
 pub record IsRow (shape : Shape) (columns : ℕ) (bytes : List ℕ) (at : ℕ) : Type 0 where
   pub before : List ℕ
   pub rows : all_rows shape columns bytes ≡ before ++ row_starts shape columns at 0 (drop at bytes)

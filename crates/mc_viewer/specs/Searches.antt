@@ -1,5 +1,6 @@
 -- Searches: places in the whole list of bytes, and where they lead (own).
-use Rattle.std.specs.Prelude.{◌≡◌, ◌≢◌, ⊤, ℕ, ◌+◌, ◌==◌, List, [], ◌∷◌, length, take, drop, Option, Some, None, Result, Ok, Err, if◌then◌else◌}
+use Rattle.std.specs.Prelude.{◌≡◌, ◌≢◌, ⊤, ℕ, ◌+◌, ◌==◌, List, [], ◌∷◌, length, take}
+use Rattle.std.specs.Prelude.{drop, Option, Some, None, Result, Ok, Err, if◌then◌else◌}
 use Rattle.std.specs.Option.{option_map_or}
 use Rattle.std.specs.Str.{bytes_eq}
 use Rattle.tree_trait.specs.declared.calls.TreeError.TheVariants as tree
@@ -25,7 +26,8 @@ first_place text at (byte ∷ rest) =
 
 -- what a search for a text comes to; an empty one is nowhere
 abbrev pub text_sought : List ℕ → ℕ → List ℕ → Sought
-text_sought text at rest = if length text == 0 then Nowhere else option_map_or At (first_place text at rest) Nowhere
+text_sought text at rest =
+    if length text == 0 then Nowhere else option_map_or At (first_place text at rest) Nowhere
 
 -- what a search of the file from a place on comes to
 abbrev pub sought_place : Search → List ℕ → ℕ → Sought
@@ -58,7 +60,8 @@ landing what bytes s from = landing_at bytes s (sought_place what bytes from)
 
 -- a viewer once it landed there
 abbrev pub landed_viewing : Viewing → Search → Result Landing ViewError → Result Viewing ViewError
-landed_viewing v what (Ok l) = Ok (record v { state = l.state; last = Some (record { what = what; place = l.place }) })
+landed_viewing v what (Ok l) =
+    Ok (record v { state = l.state; last = Some (record { what = what; place = l.place }) })
 landed_viewing v what (Err e) = Err e
 
 -- a viewer after a search, and after the next one

@@ -2,7 +2,8 @@
 use Rattle.std.specs.Prelude.{ℕ, Bool, ◌&&◌, nat_le, List, take, if◌then◌else◌}
 use Rattle.std.specs.Str.{is_utf8}
 
--- the bytes of the first unit: the shortest front that is UTF-8, of at most 4 bytes (RFC 3629, section 3), or else one
+-- the bytes of the first unit: the shortest front that is UTF-8, of at most 4 bytes (RFC
+-- 3629, section 3), or else one
 unfoldable pub unit_length : List ℕ → ℕ
 unit_length bytes =
     if is_utf8 (take 1 bytes) then 1 else

@@ -1,5 +1,6 @@
 -- Where a viewer stands, and where each step leads (own; mc(1) has the keys).
-use Rattle.std.specs.Prelude.{⊤, ℕ, ◌+◌, ◌-◌, ◌^◌, min, Bool, true, false, not, ◌&&◌, List, length, Option, None, if◌then◌else◌}
+use Rattle.std.specs.Prelude.{⊤, ℕ, ◌+◌, ◌-◌, ◌^◌, min, Bool, true, false, not}
+use Rattle.std.specs.Prelude.{◌&&◌, List, length, Option, None, if◌then◌else◌}
 use Rattle.mc_viewer.specs.declared.layout.Shape.{Shape}
 use Rattle.mc_viewer.specs.declared.layout.Shape.TheVariants.{Wrapped, Unwrapped, Hex}
 use Rattle.mc_viewer.specs.declared.layout.Layout.{Layout}
@@ -41,7 +42,10 @@ up bytes s count = record s { top = rows_up count (rows_of bytes s) (top_row byt
 
 -- the last rows make the page
 abbrev pub to_end : List ℕ → State → State
-to_end bytes s = record s { top = rows_up (page_lines s - 1) (rows_of bytes s) (row_holding (shape_of s) s.columns bytes (length bytes)) }
+to_end bytes s = record s {
+  top =
+      rows_up (page_lines s - 1) (rows_of bytes s) (row_holding (shape_of s) s.columns bytes (length bytes));
+}
 
 -- lines stand beside what is shown only where they are in one row each
 abbrev pub moves_sideways : State → Bool

@@ -1,5 +1,6 @@
 -- What is viewed: its bytes, where they are known, and why it can't be read.
-use Rattle.std.specs.Prelude.{◌≡◌, ◌≢◌, ◌≤◌, ℕ, Bool, true, false, ⊤, List, length, Option, Some, None, Result, Ok, Err}
+use Rattle.std.specs.Prelude.{◌≡◌, ◌≢◌, ◌≤◌, ℕ, Bool, true, false, ⊤, List}
+use Rattle.std.specs.Prelude.{length, Option, Some, None, Result, Ok, Err}
 use Rattle.tree_trait.specs.declared.calls.TreeError.{TreeError}
 use Rattle.tree_trait.specs.declared.calls.TreeError.TheVariants as tree
 use Rattle.tree_trait.specs.Calls.{ReadAt}
@@ -9,7 +10,8 @@ use Rattle.tree_trait.specs.Refusals.{refusal_of}
 use Rattle.mc_viewer.specs.declared.subject.Subject.{Subject}
 use Rattle.mc_viewer.specs.declared.subject.Subject.TheVariants.{File, Output}
 use Rattle.mc_viewer.specs.declared.error.ViewError.{ViewError}
-use Rattle.mc_viewer.specs.declared.error.ViewError.TheVariants.{Tree, NotFound, BadPattern, LineTooLong, Memory}
+use Rattle.mc_viewer.specs.declared.error.ViewError.TheVariants.{Tree, NotFound, BadPattern}
+use Rattle.mc_viewer.specs.declared.error.ViewError.TheVariants.{LineTooLong, Memory}
 
 -- the bytes of an output, or those of a file in a tree that is known
 unfoldable pub held_bytes : Option CallLog → Subject → Option (List ℕ)
@@ -24,18 +26,21 @@ is_output (File path) = false
 
 -- a fact on the bytes that are viewed, where they are known and so many
 abbrev pub IfHeld : Option CallLog → Subject → ℕ → (List ℕ → Type 0) → Type 0
-IfHeld contents subject size P = (bytes : List ℕ) → held_bytes contents subject ≡ Some bytes → length bytes ≡ size → P bytes
+IfHeld contents subject size P = (bytes : List ℕ) → held_bytes contents subject ≡ Some bytes
+    → length bytes ≡ size → P bytes
 
 -- the same, where they may be fewer than was said: the file shrank since
 abbrev pub IfShorter : Option CallLog → Subject → ℕ → (List ℕ → Type 0) → Type 0
-IfShorter contents subject size P = (bytes : List ℕ) → held_bytes contents subject ≡ Some bytes → length bytes ≤ size → P bytes
+IfShorter contents subject size P = (bytes : List ℕ) → held_bytes contents subject ≡ Some bytes
+    → length bytes ≤ size → P bytes
 
 -- the error for a call that the tree refused
 abbrev pub refused_with : TreeError → ViewError
 refused_with tree.Memory = Memory
 refused_with e = Tree e
 
--- reading the subject is refused so by a tree that is known: an output never, a file as the tree says, or by a fault
+-- reading the subject is refused so by a tree that is known: an output never, a file as the
+-- tree says, or by a fault
 unfoldable pub IsRefused : CallLog → Subject → TreeError → Type 0
 IsRefused log (Output bytes) e = ⊥
 IsRefused log (File path) tree.Fault = ⊤

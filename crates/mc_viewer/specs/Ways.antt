@@ -23,4 +23,7 @@ row_along (Up count) rows row = rows_up count rows row
 -- the row so far from that which holds a place is the top
 abbrev pub to_row : List ℕ → State → Start → Way → State
 to_row bytes s start way =
-    record s { top = row_along way (rows_of bytes s) (row_holding (shape_of s) s.columns bytes (start_byte bytes start)) }
+    record s {
+      top =
+          row_along way (rows_of bytes s) (row_holding (shape_of s) s.columns bytes (start_byte bytes start));
+    }

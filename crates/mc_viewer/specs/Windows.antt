@@ -19,4 +19,5 @@ IsPieceAt bytes start piece = piece ≡ take (length piece) (drop start bytes)
 
 -- these are bytes of what is viewed from a place on, where its bytes are known
 abbrev pub IsKept : Option CallLog → Subject → ℕ → List ℕ → Type 0
-IsKept contents subject start piece = IfKnown (held_bytes contents subject) (λ bytes. IsPieceAt bytes start piece)
+IsKept contents subject start piece =
+    IfKnown (held_bytes contents subject) (λ bytes. IsPieceAt bytes start piece)

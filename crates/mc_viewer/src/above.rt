@@ -1,5 +1,6 @@
 //! The row above a row, seen in a piece that is kept where its line is short.
-ghost use Rattle.std.specs.Prelude.{◌≡◌, ◌+◌, ◌-◌, ◌<◌, ◌≤◌, ◌^◌, ℕ, List, length, take, drop, get_or, IfOk, IfErr, IfSome, true, All};
+ghost use Rattle.std.specs.Prelude.{◌≡◌, ◌+◌, ◌-◌, ◌<◌, ◌≤◌, ◌^◌, ℕ, List, length};
+ghost use Rattle.std.specs.Prelude.{take, drop, get_or, IfOk, IfErr, IfSome, true, All};
 ghost use Rattle.std.specs.Bool.{OnTrue};
 ghost use Rattle.tree_trait.specs.Answers.{IfKnown, HasCause};
 ghost use Rattle.mc_viewer.specs.Viewing.{held_bytes, IfHeld, IsReadError, AsTheTreeSays, is_output};
@@ -41,7 +42,8 @@ pub fn row_above<T: ReadTree>(
     ensures kinds { IfErr result IsReadError }
     ensures same { T.contents tree.new ≡ T.contents tree.old }
     ensures apart { is_output subject.now ≡ true → tree.new ≡ tree.old }
-    ensures cause { HasCause (ViewError.Tree TreeError.Fault) (T.fault_count tree.old) (T.fault_count tree.new) result }
+    ensures cause { HasCause (ViewError.Tree TreeError.Fault) (T.fault_count tree.old)
+        (T.fault_count tree.new) result }
 {
     let byte = row.saturating_sub(1);
     if byte >= size {
@@ -54,7 +56,8 @@ pub fn row_above<T: ReadTree>(
     row_holding(alloc, tree, subject, layout, size, byte)
 }
 
-/// Reads the bytes up to one of them, where the piece doesn't show the beginning of its line. Rows in hexadecimal need none.
+/// Reads the bytes up to one of them, where the piece doesn't show the beginning of its line. Rows
+/// in hexadecimal need none.
 fn look_back<T: ReadTree>(
     alloc: Global,
     tree: &mut T,
@@ -70,7 +73,8 @@ fn look_back<T: ReadTree>(
     ensures kinds { IfErr result IsReadError }
     ensures same { T.contents tree.new ≡ T.contents tree.old }
     ensures apart { is_output subject.now ≡ true → tree.new ≡ tree.old }
-    ensures cause { HasCause (ViewError.Tree TreeError.Fault) (T.fault_count tree.old) (T.fault_count tree.new) result }
+    ensures cause { HasCause (ViewError.Tree TreeError.Fault) (T.fault_count tree.old)
+        (T.fault_count tree.new) result }
 {
     if layout.shape == Shape::Hex {
         return Ok(());
@@ -94,7 +98,8 @@ struct LineFront {
 
 /// The front of the line of a byte, if the piece shows it whole.
 fn line_front(near: &Near, byte: u64) -> Option<LineFront>
-    ensures line { IfSome result (λ line. (bytes : List ℕ) → IsPieceAt bytes near.now.start near.now.bytes.items
+    ensures line { IfSome result (λ line. (bytes : List ℕ)
+        → IsPieceAt bytes near.now.start near.now.bytes.items
         → IsLineStart bytes (near.now.start + line.first)) }
     ensures place { IfSome result (λ line. near.now.start + line.first + line.count ≡ byte) }
     ensures within { IfSome result (λ line. line.first + line.count < length near.now.bytes.items) }
@@ -141,8 +146,8 @@ fn short_row(near: &Near, layout: Layout, byte: u64) -> Option<u64>
     }
 }
 
-/// The wrapped row that holds a byte, where the piece shows that it is the first of its line: up to the byte there are no more
-/// characters than columns, and all are printable ones of ASCII.
+/// The wrapped row that holds a byte, where the piece shows that it is the first of its line: up to the
+/// byte there are no more characters than columns, and all are printable ones of ASCII.
 fn short_wrapped(near: &Near, columns: u16, byte: u64) -> Option<u64>
     ensures { IfSome result (λ row. (bytes : List ℕ) → IsPieceAt bytes near.now.start near.now.bytes.items
         → byte < length bytes → row ≡ row_holding Shape.Wrapped columns bytes byte) }
@@ -161,7 +166,8 @@ fn short_wrapped(near: &Near, columns: u16, byte: u64) -> Option<u64>
 /// Whether the first row of some bytes has more than so many of them, seen without a table of characters.
 fn reaches(bytes: &[u8], columns: usize, count: usize) -> bool
     requires { count < length bytes.now }
-    ensures { OnTrue result ((more : List ℕ) → bytes.now ≡ take (length bytes.now) more → count < wrapped_length columns 0 0 more) }
+    ensures { OnTrue result ((more : List ℕ) → bytes.now ≡ take (length bytes.now) more
+        → count < wrapped_length columns 0 0 more) }
 {
     if count > columns {
         return false;

@@ -4,8 +4,8 @@ use std::alloc::AllocError;
 use thiserror::Error;
 use tree_trait::TreeError;
 
-/// Why a viewer refuses. `Tree` never has want of memory, which is an error of its own; `LineTooLong` has the place where
-/// the line begins.
+/// Why a viewer refuses. `Tree` never has want of memory, which is an error of its own; `LineTooLong` has
+/// the place where the line begins.
 #[derive(Clone, Copy, Debug, Drop, Error, PartialEq, Eq)]
 pub enum ViewError {
     #[error("{0}")]

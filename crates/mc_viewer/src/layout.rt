@@ -8,8 +8,8 @@ pub enum Shape {
     Hex,
 }
 
-/// How rows are cut and shown: their shape, the columns of the screen, and the first column in sight of a line that isn't
-/// wrapped.
+/// How rows are cut and shown: their shape, the columns of the screen, and the first column in sight of a
+/// line that isn't wrapped.
 #[derive(Clone, Copy, Debug, Drop)]
 pub struct Layout {
     pub shape: Shape,

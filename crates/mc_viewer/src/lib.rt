@@ -1,4 +1,5 @@
-//! A viewer of a file or an output: pages of rows, moves and searches, that read no more of it than they have to.
+//! A viewer of a file or an output: pages of rows, moves and searches, that read no more
+//! of it than they have to.
 #![tactic(auto)]
 
 mod above;

@@ -26,13 +26,15 @@ pub fn line_begin<T: ReadTree>(
     at: u64,
 ) -> Result<u64, ViewError>
     requires { at ≤ 2 ^ 63 }
-    ensures shown { IfKnown (held_bytes (T.contents tree.old) subject.now) (λ bytes. IfOk result (IsLineStart bytes)) }
+    ensures shown { IfKnown (held_bytes (T.contents tree.old) subject.now) (λ bytes.
+        IfOk result (IsLineStart bytes)) }
     ensures before { IfOk result (λ start. start ≤ at) }
     ensures refused { IfKnown (T.contents tree.old) (λ log. IfErr result (AsTheTreeSays log subject.now)) }
     ensures kinds { IfErr result IsReadError }
     ensures same { T.contents tree.new ≡ T.contents tree.old }
     ensures apart { is_output subject.now ≡ true → tree.new ≡ tree.old }
-    ensures cause { HasCause (ViewError.Tree TreeError.Fault) (T.fault_count tree.old) (T.fault_count tree.new) result }
+    ensures cause { HasCause (ViewError.Tree TreeError.Fault) (T.fault_count tree.old)
+        (T.fault_count tree.new) result }
 {
     let mut end = at;
     while end > 0 {
@@ -64,7 +66,8 @@ pub fn line_end<T: ReadTree>(
     ensures kinds { IfErr result IsReadError }
     ensures same { T.contents tree.new ≡ T.contents tree.old }
     ensures apart { is_output subject.now ≡ true → tree.new ≡ tree.old }
-    ensures cause { HasCause (ViewError.Tree TreeError.Fault) (T.fault_count tree.old) (T.fault_count tree.new) result }
+    ensures cause { HasCause (ViewError.Tree TreeError.Fault) (T.fault_count tree.old)
+        (T.fault_count tree.new) result }
 {
     let mut end = at;
     while end < size {
@@ -80,7 +83,8 @@ pub fn line_end<T: ReadTree>(
     Ok(end)
 }
 
-/// Where a line begins that so many others stand before, or where the file ends. Each byte before it is read once.
+/// Where a line begins that so many others stand before, or where the file ends. Each
+/// byte before it is read once.
 pub fn line_behind<T: ReadTree>(
     alloc: Global,
     tree: &mut T,
@@ -95,7 +99,8 @@ pub fn line_behind<T: ReadTree>(
     ensures kinds { IfErr result IsReadError }
     ensures same { T.contents tree.new ≡ T.contents tree.old }
     ensures apart { is_output subject.now ≡ true → tree.new ≡ tree.old }
-    ensures cause { HasCause (ViewError.Tree TreeError.Fault) (T.fault_count tree.old) (T.fault_count tree.new) result }
+    ensures cause { HasCause (ViewError.Tree TreeError.Fault) (T.fault_count tree.old)
+        (T.fault_count tree.new) result }
 {
     let mut start = 0;
     let mut left = lines;

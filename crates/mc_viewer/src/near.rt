@@ -1,5 +1,6 @@
 //! A piece of what is viewed, kept while the rows in it are looked at, so that its bytes are read once.
-ghost use Rattle.std.specs.Prelude.{◌≡◌, ◌+◌, ◌<◌, ◌≤◌, ◌^◌, ℕ, List, length, take, drop, IfOk, IfErr, IfSome, true};
+ghost use Rattle.std.specs.Prelude.{◌≡◌, ◌+◌, ◌<◌, ◌≤◌, ◌^◌, ℕ, List, length};
+ghost use Rattle.std.specs.Prelude.{take, drop, IfOk, IfErr, IfSome, true};
 ghost use Rattle.tree_trait.specs.Answers.{IfKnown, HasCause};
 ghost use Rattle.mc_viewer.specs.Viewing.{held_bytes, IsReadError, AsTheTreeSays, is_output};
 ghost use Rattle.mc_viewer.specs.Windows.{IsPieceAt, IsKept};
@@ -31,7 +32,8 @@ pub fn nothing_near(alloc: Global) -> Near
     }
 }
 
-/// At most so many of the bytes from a place on. They are read where the piece doesn't hold them, with those behind them.
+/// At most so many of the bytes from a place on. They are read where the piece doesn't hold
+/// them, with those behind them.
 pub fn piece_near<T: ReadTree>(
     alloc: Global,
     tree: &mut T,
@@ -49,7 +51,8 @@ pub fn piece_near<T: ReadTree>(
     ensures kinds { IfErr result IsReadError }
     ensures same { T.contents tree.new ≡ T.contents tree.old }
     ensures apart { is_output subject.now ≡ true → tree.new ≡ tree.old }
-    ensures cause { HasCause (ViewError.Tree TreeError.Fault) (T.fault_count tree.old) (T.fault_count tree.new) result }
+    ensures cause { HasCause (ViewError.Tree TreeError.Fault) (T.fault_count tree.old)
+        (T.fault_count tree.new) result }
 {
     if let Some(place) = place_in(near, at, count) {
         return Ok(part(alloc, near.bytes.as_slice(), place, count)?);

@@ -1,7 +1,8 @@
 //! What a page shows, row by row.
 ghost use Rattle.std.specs.Prelude.{◌≡◌, ◌+◌, ◌<◌, ◌≤◌, ◌^◌, ◌-◌, length, map, take, drop, IfOk, IfErr, true};
 ghost use Rattle.tree_trait.specs.Answers.{IfKnown, HasCause};
-ghost use Rattle.mc_viewer.specs.Viewing.{held_bytes, IfHeld, IsReadable, IsReadError, AsTheTreeSays, is_output};
+ghost use Rattle.mc_viewer.specs.Viewing.{held_bytes, IfHeld, IsReadable};
+ghost use Rattle.mc_viewer.specs.Viewing.{IsReadError, AsTheTreeSays, is_output};
 ghost use Rattle.mc_viewer.specs.Rows.{row_length, row_starts};
 ghost use Rattle.mc_viewer.specs.Pages.{shown_row, page_rows};
 ghost use Rattle.mc_viewer.specs.Windows.{window_of, IsKept};
@@ -35,7 +36,8 @@ pub fn page_rows<T: ReadTree>(
     ensures kinds { IfErr result IsReadError }
     ensures same { T.contents tree.new ≡ T.contents tree.old }
     ensures apart { is_output subject.now ≡ true → tree.new ≡ tree.old }
-    ensures cause { HasCause (ViewError.Tree TreeError.Fault) (T.fault_count tree.old) (T.fault_count tree.new) result }
+    ensures cause { HasCause (ViewError.Tree TreeError.Fault) (T.fault_count tree.old)
+        (T.fault_count tree.new) result }
 {
     let size = size_of(alloc, tree, subject)?;
     let first = row_holding(alloc, tree, subject, layout, size, top)?;
@@ -61,7 +63,8 @@ fn rows_from<T: ReadTree>(
     ensures kinds { IfErr result IsReadError }
     ensures same { T.contents tree.new ≡ T.contents tree.old }
     ensures apart { is_output subject.now ≡ true → tree.new ≡ tree.old }
-    ensures cause { HasCause (ViewError.Tree TreeError.Fault) (T.fault_count tree.old) (T.fault_count tree.new) result }
+    ensures cause { HasCause (ViewError.Tree TreeError.Fault) (T.fault_count tree.old)
+        (T.fault_count tree.new) result }
 {
     let mut near = nothing_near(alloc);
     let mut rows = Rows::new(alloc);
@@ -111,7 +114,8 @@ fn seen_row<T: ReadTree>(
     ensures kinds { IfErr result IsReadError }
     ensures same { T.contents tree.new ≡ T.contents tree.old }
     ensures apart { is_output subject.now ≡ true → tree.new ≡ tree.old }
-    ensures cause { HasCause (ViewError.Tree TreeError.Fault) (T.fault_count tree.old) (T.fault_count tree.new) result }
+    ensures cause { HasCause (ViewError.Tree TreeError.Fault) (T.fault_count tree.old)
+        (T.fault_count tree.new) result }
 {
     let count = window_bytes(layout, size - row);
     let window = piece_near(alloc, tree, subject, near, row, count)?;
@@ -121,7 +125,8 @@ fn seen_row<T: ReadTree>(
     Ok(SeenRow { text, end })
 }
 
-/// Where the row ends that begins at a place, of which these bytes say what it shows. They show the end of a wrapped row too.
+/// Where the row ends that begins at a place, of which these bytes say what it shows. They show the
+/// end of a wrapped row too.
 fn end_seen<T: ReadTree>(
     alloc: Global,
     tree: &mut T,
@@ -145,7 +150,8 @@ fn end_seen<T: ReadTree>(
     ensures kinds { IfErr result IsReadError }
     ensures same { T.contents tree.new ≡ T.contents tree.old }
     ensures apart { is_output subject.now ≡ true → tree.new ≡ tree.old }
-    ensures cause { HasCause (ViewError.Tree TreeError.Fault) (T.fault_count tree.old) (T.fault_count tree.new) result }
+    ensures cause { HasCause (ViewError.Tree TreeError.Fault) (T.fault_count tree.old)
+        (T.fault_count tree.new) result }
 {
     match layout.shape {
         Shape::Wrapped => Ok(end_behind(

@@ -26,7 +26,8 @@ pub fn piece<T: ReadTree>(
     ensures kinds { IfErr result IsReadError }
     ensures same { T.contents tree.new ≡ T.contents tree.old }
     ensures apart { is_output subject.now ≡ true → tree.new ≡ tree.old }
-    ensures cause { HasCause (ViewError.Tree TreeError.Fault) (T.fault_count tree.old) (T.fault_count tree.new) result }
+    ensures cause { HasCause (ViewError.Tree TreeError.Fault) (T.fault_count tree.old)
+        (T.fault_count tree.new) result }
 {
     match subject {
         Subject::File(path) => file_piece(alloc, tree, path, at, count),
@@ -44,11 +45,14 @@ fn file_piece<T: ReadTree>(
     ensures shown { IfKnown (held_bytes (T.contents tree.old) (Subject.File path.now)) (λ bytes.
         IfOk result (λ piece. piece.items ≡ take count (drop at bytes))) }
     ensures short { IfOk result (λ piece. length piece.items ≤ count) }
-    ensures readable { IfKnown (T.contents tree.old) (λ log. IfOk result (λ _. IsReadable log (Subject.File path.now))) }
-    ensures refused { IfKnown (T.contents tree.old) (λ log. IfErr result (AsTheTreeSays log (Subject.File path.now))) }
+    ensures readable { IfKnown (T.contents tree.old) (λ log.
+        IfOk result (λ _. IsReadable log (Subject.File path.now))) }
+    ensures refused { IfKnown (T.contents tree.old) (λ log.
+        IfErr result (AsTheTreeSays log (Subject.File path.now))) }
     ensures kinds { IfErr result IsReadError }
     ensures same { T.contents tree.new ≡ T.contents tree.old }
-    ensures cause { HasCause (ViewError.Tree TreeError.Fault) (T.fault_count tree.old) (T.fault_count tree.new) result }
+    ensures cause { HasCause (ViewError.Tree TreeError.Fault) (T.fault_count tree.old)
+        (T.fault_count tree.new) result }
 {
     let mut bytes = vec![in alloc; 0u8; count]?;
     let read = tree.read_at(alloc, path, at, bytes.as_mut_slice())?;
@@ -79,7 +83,8 @@ pub fn size_of<T: ReadTree>(
     ensures kinds { IfErr result IsReadError }
     ensures same { T.contents tree.new ≡ T.contents tree.old }
     ensures apart { is_output subject.now ≡ true → tree.new ≡ tree.old }
-    ensures cause { HasCause (ViewError.Tree TreeError.Fault) (T.fault_count tree.old) (T.fault_count tree.new) result }
+    ensures cause { HasCause (ViewError.Tree TreeError.Fault) (T.fault_count tree.old)
+        (T.fault_count tree.new) result }
 {
     match subject {
         Subject::File(path) => file_size(alloc, tree, path),
@@ -91,11 +96,14 @@ fn file_size<T: ReadTree>(alloc: Global, tree: &mut T, path: &Path) -> Result<u6
     ensures shown { IfKnown (held_bytes (T.contents tree.old) (Subject.File path.now)) (λ bytes.
         IfOk result (λ size. size ≡ length bytes)) }
     ensures small { IfOk result (λ size. size ≤ 2 ^ 63) }
-    ensures readable { IfKnown (T.contents tree.old) (λ log. IfOk result (λ _. IsReadable log (Subject.File path.now))) }
-    ensures refused { IfKnown (T.contents tree.old) (λ log. IfErr result (AsTheTreeSays log (Subject.File path.now))) }
+    ensures readable { IfKnown (T.contents tree.old) (λ log.
+        IfOk result (λ _. IsReadable log (Subject.File path.now))) }
+    ensures refused { IfKnown (T.contents tree.old) (λ log.
+        IfErr result (AsTheTreeSays log (Subject.File path.now))) }
     ensures kinds { IfErr result IsReadError }
     ensures same { T.contents tree.new ≡ T.contents tree.old }
-    ensures cause { HasCause (ViewError.Tree TreeError.Fault) (T.fault_count tree.old) (T.fault_count tree.new) result }
+    ensures cause { HasCause (ViewError.Tree TreeError.Fault) (T.fault_count tree.old)
+        (T.fault_count tree.new) result }
 {
     file_piece(alloc, tree, path, 0, 1)?;
     let meta = tree.stat(alloc, path)?;

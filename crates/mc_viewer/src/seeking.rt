@@ -1,9 +1,11 @@
 //! Where a search leads.
 ghost use Rattle.std.specs.Prelude.{◌≡◌, ◌≢◌, ◌≤◌, ◌^◌, None, Ok, Err, IfOk, IfErr, true};
 ghost use Rattle.tree_trait.specs.Answers.{IfKnown, HasCause};
-ghost use Rattle.mc_viewer.specs.Viewing.{held_bytes, IfHeld, IfRead, IsReadable, IsReadError, AsTheTreeSays, is_output};
+ghost use Rattle.mc_viewer.specs.Viewing.{held_bytes, IfHeld, IfRead, IsReadable};
+ghost use Rattle.mc_viewer.specs.Viewing.{IsReadError, AsTheTreeSays, is_output};
 ghost use Rattle.mc_viewer.specs.ViewerSteps.{to_byte};
-ghost use Rattle.mc_viewer.specs.Searches.{sought_place, start_from, first_from, next_from, landing, hit_landing, IsMissed, IsSearchError};
+ghost use Rattle.mc_viewer.specs.Searches.{sought_place, start_from, first_from, next_from};
+ghost use Rattle.mc_viewer.specs.Searches.{landing, hit_landing, IsMissed, IsSearchError};
 
 use crate::error::ViewError;
 use crate::layout::{Layout, Shape};
@@ -19,7 +21,7 @@ use text_search::Sought;
 use tree_trait::{ReadTree, TreeError};
 
 /// Where a search from the top leads.
-#[tactic(auto, using(crate::proofs::SeekLemmas::missed_unread, crate::proofs::SeekLemmas::read_error_search, crate::proofs::SeekLemmas::unread, crate::proofs::SeekLemmas::once_read))]
+#[tactic(auto, using(crate::proofs::SeekLemmas::readings))]
 pub fn first_landing<T: ReadTree>(
     alloc: Global,
     tree: &mut T,
@@ -38,7 +40,8 @@ pub fn first_landing<T: ReadTree>(
     ensures kinds { IfErr result IsSearchError }
     ensures same { T.contents tree.new ≡ T.contents tree.old }
     ensures apart { is_output subject.now ≡ true → tree.new ≡ tree.old }
-    ensures cause { HasCause (ViewError.Tree TreeError.Fault) (T.fault_count tree.old) (T.fault_count tree.new) result }
+    ensures cause { HasCause (ViewError.Tree TreeError.Fault) (T.fault_count tree.old)
+        (T.fault_count tree.new) result }
 {
     let size = size_of(alloc, tree, subject)?;
     let layout = layout_of(state);
@@ -65,7 +68,8 @@ fn search_start<T: ReadTree>(
     ensures kinds { IfErr result IsReadError }
     ensures same { T.contents tree.new ≡ T.contents tree.old }
     ensures apart { is_output subject.now ≡ true → tree.new ≡ tree.old }
-    ensures cause { HasCause (ViewError.Tree TreeError.Fault) (T.fault_count tree.old) (T.fault_count tree.new) result }
+    ensures cause { HasCause (ViewError.Tree TreeError.Fault) (T.fault_count tree.old)
+        (T.fault_count tree.new) result }
 {
     match what {
         Search::Plain(_) => Ok(top),
@@ -85,7 +89,7 @@ fn lines_of(columns: u16) -> Layout
 }
 
 /// Where a search behind what was found last leads.
-#[tactic(auto, using(crate::proofs::SeekLemmas::missed_unread, crate::proofs::SeekLemmas::read_error_search, crate::proofs::SeekLemmas::unread, crate::proofs::SeekLemmas::once_read))]
+#[tactic(auto, using(crate::proofs::SeekLemmas::readings))]
 pub fn next_landing<T: ReadTree>(
     alloc: Global,
     tree: &mut T,
@@ -100,12 +104,14 @@ pub fn next_landing<T: ReadTree>(
         IfErr result (IsMissed (hit_landing bytes state last.now))) }
     ensures columns { IfOk result (λ l. l.state.columns ≡ state.columns) }
     ensures unsought { last.now ≡ None → (result ≡ Err ViewError.NotFound) × (tree.new ≡ tree.old) }
-    ensures readable { IfKnown (T.contents tree.old) (λ log. IfRead result (last.now ≢ None → IsReadable log subject.now)) }
+    ensures readable { IfKnown (T.contents tree.old) (λ log.
+        IfRead result (last.now ≢ None → IsReadable log subject.now)) }
     ensures refused { IfKnown (T.contents tree.old) (λ log. IfErr result (AsTheTreeSays log subject.now)) }
     ensures kinds { IfErr result IsSearchError }
     ensures same { T.contents tree.new ≡ T.contents tree.old }
     ensures apart { is_output subject.now ≡ true → tree.new ≡ tree.old }
-    ensures cause { HasCause (ViewError.Tree TreeError.Fault) (T.fault_count tree.old) (T.fault_count tree.new) result }
+    ensures cause { HasCause (ViewError.Tree TreeError.Fault) (T.fault_count tree.old)
+        (T.fault_count tree.new) result }
 {
     let Some(hit) = last else {
         return Err(ViewError::NotFound);
@@ -115,8 +121,8 @@ pub fn next_landing<T: ReadTree>(
     land(alloc, tree, subject, state, size, &hit.what, from)
 }
 
-/// Where the next search begins: behind the place that was found, one over lines behind the line of that. Behind the end there
-/// is nothing more.
+/// Where the next search begins: behind the place that was found, one over lines behind the line of that.
+/// Behind the end there is nothing more.
 fn behind<T: ReadTree>(
     alloc: Global,
     tree: &mut T,
@@ -127,12 +133,14 @@ fn behind<T: ReadTree>(
 ) -> Result<u64, ViewError>
     requires small { size ≤ 2 ^ 63 }
     ensures shown { IfHeld (T.contents tree.old) subject.now size (λ bytes.
-        IfOk result (λ from. sought_place what.now bytes from ≡ sought_place what.now bytes (next_from bytes what.now place))) }
+        IfOk result (λ from.
+        sought_place what.now bytes from ≡ sought_place what.now bytes (next_from bytes what.now place))) }
     ensures refused { IfKnown (T.contents tree.old) (λ log. IfErr result (AsTheTreeSays log subject.now)) }
     ensures kinds { IfErr result IsReadError }
     ensures same { T.contents tree.new ≡ T.contents tree.old }
     ensures apart { is_output subject.now ≡ true → tree.new ≡ tree.old }
-    ensures cause { HasCause (ViewError.Tree TreeError.Fault) (T.fault_count tree.old) (T.fault_count tree.new) result }
+    ensures cause { HasCause (ViewError.Tree TreeError.Fault) (T.fault_count tree.old)
+        (T.fault_count tree.new) result }
 {
     if place >= size {
         return Ok(size);
@@ -165,7 +173,8 @@ fn land<T: ReadTree>(
     ensures kinds { IfErr result IsSearchError }
     ensures same { T.contents tree.new ≡ T.contents tree.old }
     ensures apart { is_output subject.now ≡ true → tree.new ≡ tree.old }
-    ensures cause { HasCause (ViewError.Tree TreeError.Fault) (T.fault_count tree.old) (T.fault_count tree.new) result }
+    ensures cause { HasCause (ViewError.Tree TreeError.Fault) (T.fault_count tree.old)
+        (T.fault_count tree.new) result }
 {
     match sought(alloc, tree, subject, size, what, from)? {
         Sought::At(place) => landed(alloc, tree, subject, state, size, place),
@@ -193,7 +202,8 @@ fn landed<T: ReadTree>(
     ensures kinds { IfErr result IsReadError }
     ensures same { T.contents tree.new ≡ T.contents tree.old }
     ensures apart { is_output subject.now ≡ true → tree.new ≡ tree.old }
-    ensures cause { HasCause (ViewError.Tree TreeError.Fault) (T.fault_count tree.old) (T.fault_count tree.new) result }
+    ensures cause { HasCause (ViewError.Tree TreeError.Fault) (T.fault_count tree.old)
+        (T.fault_count tree.new) result }
 {
     let layout = layout_of(state);
     let top = row_holding(alloc, tree, subject, layout, size, place)?;

@@ -1,6 +1,7 @@
 //! Where a viewer stands.
 ghost use Rattle.std.specs.Prelude.{◌≡◌, ◌+◌, ◌-◌, ◌^◌, min, not, ◌&&◌};
-ghost use Rattle.mc_viewer.specs.ViewerSteps.{shape_of, layout_of, page_lines, moves_sideways, to_left, to_right};
+ghost use Rattle.mc_viewer.specs.ViewerSteps.{shape_of, layout_of, page_lines};
+ghost use Rattle.mc_viewer.specs.ViewerSteps.{moves_sideways, to_left, to_right};
 
 use crate::layout::{Layout, Shape};
 
@@ -21,8 +22,8 @@ pub enum ViewStep {
     Hex,
 }
 
-/// Where a viewer stands: the screen's lines and columns, how its rows are cut, the first column in sight of lines that
-/// aren't wrapped, and the byte that names the top.
+/// Where a viewer stands: the screen's lines and columns, how its rows are cut, the first column in sight
+/// of lines that aren't wrapped, and the byte that names the top.
 #[derive(Clone, Copy, Debug, Drop)]
 pub struct State {
     pub lines: u16,

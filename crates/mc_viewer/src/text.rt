@@ -1,5 +1,6 @@
 //! What a row shows.
-ghost use Rattle.std.specs.Prelude.{◌≡◌, ◌+◌, ◌-◌, ◌*◌, ◌<◌, ◌≤◌, ◌++◌, ◌∷◌, [], ◌^◌, length, drop, take, min, replicate, string_bytes, IfOk};
+ghost use Rattle.std.specs.Prelude.{◌≡◌, ◌+◌, ◌-◌, ◌*◌, ◌<◌, ◌≤◌, ◌++◌, ◌∷◌, [], ◌^◌};
+ghost use Rattle.std.specs.Prelude.{length, drop, take, min, replicate, string_bytes, IfOk};
 ghost use Rattle.mc_viewer.specs.Pages.{line_in_sight, row_text};
 ghost use Rattle.mc_viewer.specs.Windows.{window_of};
 
@@ -10,8 +11,8 @@ use mc_text::{NoMemory, Text};
 use std::alloc::Global;
 use text_units::{Sight, hex_row};
 
-/// How many bytes from a row's start on show what the row shows, where so many are left. A character has four bytes at
-/// most and a column at least.
+/// How many bytes from a row's start on show what the row shows, where so many are left. A character has
+/// four bytes at most and a column at least.
 pub fn window_bytes(layout: Layout, left: u64) -> usize
     ensures { result ≡ min left (window_of layout.shape layout.columns layout.left) }
 {

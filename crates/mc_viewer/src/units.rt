@@ -1,5 +1,6 @@
 //! The units of a file.
-ghost use Rattle.std.specs.Prelude.{◌≡◌, ◌≤◌, ◌<◌, ◌+◌, ◌^◌, ◌∷◌, [], ◌++◌, length, take, drop, string_bytes, true, IfOk, IfSome};
+ghost use Rattle.std.specs.Prelude.{◌≡◌, ◌≤◌, ◌<◌, ◌+◌, ◌^◌, ◌∷◌, [], ◌++◌, length};
+ghost use Rattle.std.specs.Prelude.{take, drop, string_bytes, true, IfOk, IfSome};
 ghost use Rattle.std.specs.Str.{is_utf8};
 ghost use Rattle.text_units.specs.Units.{unit_columns, piece_in_sight};
 ghost use Rattle.mc_viewer.specs.Units.{unit_length, is_plain};
@@ -46,7 +47,8 @@ fn shortest_text(bytes: &[u8]) -> usize
     1
 }
 
-/// Whether a byte is a printable character of ASCII. Such a unit shows as itself in one column, and no table is asked for it.
+/// Whether a byte is a printable character of ASCII. Such a unit shows as itself in one column, and
+/// no table is asked for it.
 pub fn is_plain(byte: u8) -> bool
     ensures { result ≡ is_plain byte }
 {

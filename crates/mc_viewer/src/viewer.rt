@@ -1,7 +1,8 @@
 //! A viewer of a file or an output.
 ghost use Rattle.std.specs.Prelude.{◌≡◌, ◌≢◌, ◌≤◌, None, Ok, Err, IsOk, IfOk, IfErr, OnOk, OnErr, true};
 ghost use Rattle.tree_trait.specs.Answers.{IfKnown, HasCause};
-ghost use Rattle.mc_viewer.specs.Viewing.{held_bytes, IfRead, IsReadable, IsReadError, AsTheTreeSays, is_output};
+ghost use Rattle.mc_viewer.specs.Viewing.{held_bytes, IfRead, IsReadable};
+ghost use Rattle.mc_viewer.specs.Viewing.{IsReadError, AsTheTreeSays, is_output};
 ghost use Rattle.mc_viewer.specs.Searches.{after_search, after_next, moved_on, IsMissed, IsSearchError};
 ghost use Rattle.mc_viewer.specs.ViewerSteps.{begun_viewing, page_of, after_step, NeedsNoLook};
 
@@ -20,8 +21,8 @@ use std::alloc::Global;
 use std::marker::Model;
 use tree_trait::{ReadTree, TreeError};
 
-/// A viewer. It keeps none of what it shows: each call reads what it needs, as it stands then. Contracts see what is viewed,
-/// and where the viewer stands, and what was found last.
+/// A viewer. It keeps none of what it shows: each call reads what it needs, as it stands then. Contracts
+/// see what is viewed, and where the viewer stands, and what was found last.
 #[derive(Debug, Drop)]
 pub struct Viewer {
     subject: Subject,
@@ -56,7 +57,8 @@ impl Viewer {
         ensures kinds { IfErr result IsReadError }
         ensures same { T.contents tree.new ≡ T.contents tree.old }
         ensures apart { is_output subject ≡ true → tree.new ≡ tree.old }
-        ensures cause { HasCause (ViewError.Tree TreeError.Fault) (T.fault_count tree.old) (T.fault_count tree.new) result }
+        ensures cause { HasCause (ViewError.Tree TreeError.Fault) (T.fault_count tree.old)
+            (T.fault_count tree.new) result }
     {
         size_of(alloc, tree, &subject)?;
         let state = State {
@@ -78,12 +80,15 @@ impl Viewer {
     pub fn page<T: ReadTree>(&self, alloc: Global, tree: &mut T) -> Result<Rows, ViewError>
         ensures shown { IfKnown (held_bytes (T.contents tree.old) self.now.subject) (λ bytes.
             IfOk result (λ rows. rows ≡ page_of bytes self.now.state)) }
-        ensures readable { IfKnown (T.contents tree.old) (λ log. IfOk result (λ _. IsReadable log self.now.subject)) }
-        ensures refused { IfKnown (T.contents tree.old) (λ log. IfErr result (AsTheTreeSays log self.now.subject)) }
+        ensures readable { IfKnown (T.contents tree.old) (λ log.
+            IfOk result (λ _. IsReadable log self.now.subject)) }
+        ensures refused { IfKnown (T.contents tree.old) (λ log.
+            IfErr result (AsTheTreeSays log self.now.subject)) }
         ensures kinds { IfErr result IsReadError }
         ensures same { T.contents tree.new ≡ T.contents tree.old }
         ensures apart { is_output self.now.subject ≡ true → tree.new ≡ tree.old }
-        ensures cause { HasCause (ViewError.Tree TreeError.Fault) (T.fault_count tree.old) (T.fault_count tree.new) result }
+        ensures cause { HasCause (ViewError.Tree TreeError.Fault) (T.fault_count tree.old)
+            (T.fault_count tree.new) result }
     {
         page_rows(
             alloc,
@@ -108,19 +113,21 @@ impl Viewer {
         ensures last { self.new.last ≡ self.old.last }
         ensures stays { OnErr result (self.new ≡ self.old) }
         ensures still { NeedsNoLook step → IsOk result × (tree.new ≡ tree.old) }
-        ensures refused { IfKnown (T.contents tree.old) (λ log. IfErr result (AsTheTreeSays log self.old.subject)) }
+        ensures refused { IfKnown (T.contents tree.old) (λ log.
+            IfErr result (AsTheTreeSays log self.old.subject)) }
         ensures kinds { IfErr result IsReadError }
         ensures same { T.contents tree.new ≡ T.contents tree.old }
         ensures apart { is_output self.old.subject ≡ true → tree.new ≡ tree.old }
-        ensures cause { HasCause (ViewError.Tree TreeError.Fault) (T.fault_count tree.old) (T.fault_count tree.new) result }
+        ensures cause { HasCause (ViewError.Tree TreeError.Fault) (T.fault_count tree.old)
+            (T.fault_count tree.new) result }
     {
         let state = moved(alloc, tree, &self.subject, self.state, step)?;
         self.state = state;
         Ok(())
     }
 
-    /// Searches from the top on. What can't be read is refused before anything is sought. A search that fails leaves the viewer
-    /// where it stood, and what was found before is still the last.
+    /// Searches from the top on. What can't be read is refused before anything is sought. A search that
+    /// fails leaves the viewer where it stood, and what was found before is still the last.
     pub fn search<T: ReadTree>(
         &mut self,
         alloc: Global,
@@ -133,12 +140,15 @@ impl Viewer {
             IfErr result (IsMissed (after_search bytes what self.old))) }
         ensures subject { self.new.subject ≡ self.old.subject }
         ensures stays { OnErr result (self.new ≡ self.old) }
-        ensures readable { IfKnown (T.contents tree.old) (λ log. IfRead result (IsReadable log self.old.subject)) }
-        ensures refused { IfKnown (T.contents tree.old) (λ log. IfErr result (AsTheTreeSays log self.old.subject)) }
+        ensures readable { IfKnown (T.contents tree.old) (λ log.
+            IfRead result (IsReadable log self.old.subject)) }
+        ensures refused { IfKnown (T.contents tree.old) (λ log.
+            IfErr result (AsTheTreeSays log self.old.subject)) }
         ensures kinds { IfErr result IsSearchError }
         ensures same { T.contents tree.new ≡ T.contents tree.old }
         ensures apart { is_output self.old.subject ≡ true → tree.new ≡ tree.old }
-        ensures cause { HasCause (ViewError.Tree TreeError.Fault) (T.fault_count tree.old) (T.fault_count tree.new) result }
+        ensures cause { HasCause (ViewError.Tree TreeError.Fault) (T.fault_count tree.old)
+            (T.fault_count tree.new) result }
     {
         let landing = first_landing(alloc, tree, &self.subject, self.state, &what)?;
         self.state = landing.state;
@@ -149,7 +159,8 @@ impl Viewer {
         Ok(())
     }
 
-    /// Searches once more, behind what was found last. Before that nothing is found, and nothing is looked at.
+    /// Searches once more, behind what was found last. Before that nothing is found,
+    /// and nothing is looked at.
     pub fn next<T: ReadTree>(&mut self, alloc: Global, tree: &mut T) -> Result<(), ViewError>
         ensures found { IfKnown (held_bytes (T.contents tree.old) self.old.subject) (λ bytes.
             OnOk result (after_next bytes self.old ≡ Ok self.new)) }
@@ -160,11 +171,13 @@ impl Viewer {
         ensures unsought { self.old.last ≡ None → (result ≡ Err ViewError.NotFound) × (tree.new ≡ tree.old) }
         ensures readable { IfKnown (T.contents tree.old) (λ log.
             IfRead result (self.old.last ≢ None → IsReadable log self.old.subject)) }
-        ensures refused { IfKnown (T.contents tree.old) (λ log. IfErr result (AsTheTreeSays log self.old.subject)) }
+        ensures refused { IfKnown (T.contents tree.old) (λ log.
+            IfErr result (AsTheTreeSays log self.old.subject)) }
         ensures kinds { IfErr result IsSearchError }
         ensures same { T.contents tree.new ≡ T.contents tree.old }
         ensures apart { is_output self.old.subject ≡ true → tree.new ≡ tree.old }
-        ensures cause { HasCause (ViewError.Tree TreeError.Fault) (T.fault_count tree.old) (T.fault_count tree.new) result }
+        ensures cause { HasCause (ViewError.Tree TreeError.Fault) (T.fault_count tree.old)
+            (T.fault_count tree.new) result }
     {
         let landing = next_landing(alloc, tree, &self.subject, self.state, &self.last)?;
         self.state = landing.state;

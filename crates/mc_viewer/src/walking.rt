@@ -1,5 +1,6 @@
 //! The rows of what is viewed: where each ends, and which holds a byte.
-ghost use Rattle.std.specs.Prelude.{◌≡◌, ℕ, ◌+◌, ◌-◌, ◌<◌, ◌≤◌, ◌^◌, min, max, length, drop, IfOk, IfErr, true};
+ghost use Rattle.std.specs.Prelude.{◌≡◌, ℕ, ◌+◌, ◌-◌, ◌<◌, ◌≤◌, ◌^◌, min};
+ghost use Rattle.std.specs.Prelude.{max, length, drop, IfOk, IfErr, true};
 ghost use Rattle.tree_trait.specs.Answers.{IfKnown, HasCause};
 ghost use Rattle.mc_viewer.specs.Viewing.{IfHeld, IsReadError, AsTheTreeSays, is_output};
 ghost use Rattle.mc_viewer.specs.Rows.{row_length, all_rows, row_holding, row_after, IsRow};
@@ -33,7 +34,8 @@ pub fn row_end<T: ReadTree>(
     ensures kinds { IfErr result IsReadError }
     ensures same { T.contents tree.new ≡ T.contents tree.old }
     ensures apart { is_output subject.now ≡ true → tree.new ≡ tree.old }
-    ensures cause { HasCause (ViewError.Tree TreeError.Fault) (T.fault_count tree.old) (T.fault_count tree.new) result }
+    ensures cause { HasCause (ViewError.Tree TreeError.Fault) (T.fault_count tree.old)
+        (T.fault_count tree.new) result }
 {
     match layout.shape {
         Shape::Wrapped => wrapped_end(alloc, tree, subject, layout.columns, size, at),
@@ -42,8 +44,8 @@ pub fn row_end<T: ReadTree>(
     }
 }
 
-/// Where the wrapped row from a place on ends. A character has four bytes at most, so it reads four for each column, and
-/// nine more.
+/// Where the wrapped row from a place on ends. A character has four bytes at most, so it reads four for
+/// each column, and nine more.
 fn wrapped_end<T: ReadTree>(
     alloc: Global,
     tree: &mut T,
@@ -63,7 +65,8 @@ fn wrapped_end<T: ReadTree>(
     ensures kinds { IfErr result IsReadError }
     ensures same { T.contents tree.new ≡ T.contents tree.old }
     ensures apart { is_output subject.now ≡ true → tree.new ≡ tree.old }
-    ensures cause { HasCause (ViewError.Tree TreeError.Fault) (T.fault_count tree.old) (T.fault_count tree.new) result }
+    ensures cause { HasCause (ViewError.Tree TreeError.Fault) (T.fault_count tree.old)
+        (T.fault_count tree.new) result }
 {
     let columns = columns as usize;
     let window = piece(alloc, tree, subject, at, 4 * columns + 9)?;
@@ -99,7 +102,8 @@ pub fn row_holding<T: ReadTree>(
     ensures kinds { IfErr result IsReadError }
     ensures same { T.contents tree.new ≡ T.contents tree.old }
     ensures apart { is_output subject.now ≡ true → tree.new ≡ tree.old }
-    ensures cause { HasCause (ViewError.Tree TreeError.Fault) (T.fault_count tree.old) (T.fault_count tree.new) result }
+    ensures cause { HasCause (ViewError.Tree TreeError.Fault) (T.fault_count tree.old)
+        (T.fault_count tree.new) result }
 {
     if size == 0 {
         return Ok(0);
@@ -109,7 +113,8 @@ pub fn row_holding<T: ReadTree>(
     Ok(row)
 }
 
-/// A row that begins at a byte or before it: where its line begins, or, in hexadecimal, at the multiple of sixteen.
+/// A row that begins at a byte or before it: where its line begins, or, in hexadecimal, at
+/// the multiple of sixteen.
 fn row_before<T: ReadTree>(
     alloc: Global,
     tree: &mut T,
@@ -127,7 +132,8 @@ fn row_before<T: ReadTree>(
     ensures kinds { IfErr result IsReadError }
     ensures same { T.contents tree.new ≡ T.contents tree.old }
     ensures apart { is_output subject.now ≡ true → tree.new ≡ tree.old }
-    ensures cause { HasCause (ViewError.Tree TreeError.Fault) (T.fault_count tree.old) (T.fault_count tree.new) result }
+    ensures cause { HasCause (ViewError.Tree TreeError.Fault) (T.fault_count tree.old)
+        (T.fault_count tree.new) result }
 {
     match shape {
         Shape::Hex => Ok(byte - byte % 16),
@@ -160,7 +166,8 @@ fn walk<T: ReadTree>(
     ensures kinds { IfErr result IsReadError }
     ensures same { T.contents tree.new ≡ T.contents tree.old }
     ensures apart { is_output subject.now ≡ true → tree.new ≡ tree.old }
-    ensures cause { HasCause (ViewError.Tree TreeError.Fault) (T.fault_count tree.old) (T.fault_count tree.new) result }
+    ensures cause { HasCause (ViewError.Tree TreeError.Fault) (T.fault_count tree.old)
+        (T.fault_count tree.new) result }
 {
     let mut row = from;
     loop {
@@ -198,7 +205,8 @@ pub fn row_below<T: ReadTree>(
     ensures kinds { IfErr result IsReadError }
     ensures same { T.contents tree.new ≡ T.contents tree.old }
     ensures apart { is_output subject.now ≡ true → tree.new ≡ tree.old }
-    ensures cause { HasCause (ViewError.Tree TreeError.Fault) (T.fault_count tree.old) (T.fault_count tree.new) result }
+    ensures cause { HasCause (ViewError.Tree TreeError.Fault) (T.fault_count tree.old)
+        (T.fault_count tree.new) result }
 {
     if size == 0 {
         return Ok(row);

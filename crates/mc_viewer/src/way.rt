@@ -1,6 +1,7 @@
 //! From which row a step leads, and how far.
 
-/// The place in the row from which a step leads: a byte, where a line begins that so many others stand before, or the end.
+/// The place in the row from which a step leads: a byte, where a line begins that so many others
+/// stand before, or the end.
 #[derive(Clone, Copy, Debug)]
 pub enum Start {
     Byte(u64),

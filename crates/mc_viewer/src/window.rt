@@ -16,7 +16,8 @@ use std::convert::AsStr;
 use text_search::{LineMatcher, LineRegex, PART_BYTES, Part, RegexError, Sought};
 use tree_trait::{ReadTree, TreeError};
 
-/// The places of a piece at which a text is sought. It has as many bytes more as the text, so that it shows each place whole.
+/// The places of a piece at which a text is sought. It has as many bytes more as the text, so that
+/// it shows each place whole.
 const PIECE_PLACES: usize = 65_536;
 
 /// What a search from a place on comes to.
@@ -35,7 +36,8 @@ pub fn sought<T: ReadTree>(
     ensures kinds { IfErr result IsReadError }
     ensures same { T.contents tree.new ≡ T.contents tree.old }
     ensures apart { is_output subject.now ≡ true → tree.new ≡ tree.old }
-    ensures cause { HasCause (ViewError.Tree TreeError.Fault) (T.fault_count tree.old) (T.fault_count tree.new) result }
+    ensures cause { HasCause (ViewError.Tree TreeError.Fault) (T.fault_count tree.old)
+        (T.fault_count tree.new) result }
 {
     match what {
         Search::Plain(text) => text_sought(alloc, tree, subject, size, text.0.as_slice(), from),
@@ -59,7 +61,8 @@ fn text_sought<T: ReadTree>(
     ensures kinds { IfErr result IsReadError }
     ensures same { T.contents tree.new ≡ T.contents tree.old }
     ensures apart { is_output subject.now ≡ true → tree.new ≡ tree.old }
-    ensures cause { HasCause (ViewError.Tree TreeError.Fault) (T.fault_count tree.old) (T.fault_count tree.new) result }
+    ensures cause { HasCause (ViewError.Tree TreeError.Fault) (T.fault_count tree.old)
+        (T.fault_count tree.new) result }
 {
     if text.is_empty() {
         return Ok(Sought::Nowhere);
@@ -95,7 +98,8 @@ fn through_pieces<T: ReadTree>(
     ensures kinds { IfErr result IsReadError }
     ensures same { T.contents tree.new ≡ T.contents tree.old }
     ensures apart { is_output subject.now ≡ true → tree.new ≡ tree.old }
-    ensures cause { HasCause (ViewError.Tree TreeError.Fault) (T.fault_count tree.old) (T.fault_count tree.new) result }
+    ensures cause { HasCause (ViewError.Tree TreeError.Fault) (T.fault_count tree.old)
+        (T.fault_count tree.new) result }
 {
     let mut at = from;
     while at < size {
@@ -133,7 +137,8 @@ fn lines_sought<T: ReadTree>(
     ensures kinds { IfErr result IsReadError }
     ensures same { T.contents tree.new ≡ T.contents tree.old }
     ensures apart { is_output subject.now ≡ true → tree.new ≡ tree.old }
-    ensures cause { HasCause (ViewError.Tree TreeError.Fault) (T.fault_count tree.old) (T.fault_count tree.new) result }
+    ensures cause { HasCause (ViewError.Tree TreeError.Fault) (T.fault_count tree.old)
+        (T.fault_count tree.new) result }
 {
     match LineRegex::new(alloc, text) {
         Ok(regex) => regex_sought(alloc, tree, subject, size, &regex, from),
@@ -159,13 +164,15 @@ fn regex_sought<T: ReadTree>(
     ensures kinds { IfErr result IsReadError }
     ensures same { T.contents tree.new ≡ T.contents tree.old }
     ensures apart { is_output subject.now ≡ true → tree.new ≡ tree.old }
-    ensures cause { HasCause (ViewError.Tree TreeError.Fault) (T.fault_count tree.old) (T.fault_count tree.new) result }
+    ensures cause { HasCause (ViewError.Tree TreeError.Fault) (T.fault_count tree.old)
+        (T.fault_count tree.new) result }
 {
     let mut matcher = regex.matcher(alloc)?;
     through_lines(alloc, tree, subject, size, &mut matcher, from)
 }
 
-/// Reads part by part, each from the line on with which the one before ended, up to the first line in which something is found.
+/// Reads part by part, each from the line on with which the one before ended, up to the first line in
+/// which something is found.
 fn through_lines<T: ReadTree>(
     alloc: Global,
     tree: &mut T,
@@ -181,7 +188,8 @@ fn through_lines<T: ReadTree>(
     ensures kinds { IfErr result IsReadError }
     ensures same { T.contents tree.new ≡ T.contents tree.old }
     ensures apart { is_output subject.now ≡ true → tree.new ≡ tree.old }
-    ensures cause { HasCause (ViewError.Tree TreeError.Fault) (T.fault_count tree.old) (T.fault_count tree.new) result }
+    ensures cause { HasCause (ViewError.Tree TreeError.Fault) (T.fault_count tree.old)
+        (T.fault_count tree.new) result }
 {
     let mut at = from;
     while at < size {

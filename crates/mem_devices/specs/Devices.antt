@@ -5,14 +5,16 @@ use Rattle.tree_trait.specs.declared.devices.RunOutcome.{RunOutcome}
 use Rattle.tree_trait.specs.declared.devices.SpawnError.{SpawnError}
 use Rattle.tree_trait.specs.declared.devices.SpawnError.TheVariants.{Fault}
 
--- keys that come: the bytes that are left, the number of the call that fails, and how many calls and faults there were
+-- keys that come: the bytes that are left, the number of the call that fails, and how many
+-- calls and faults there were
 pub record Keys : Type 0 where
   pub left : List ℕ
   pub fail_at : Option ℕ
   pub called : ℕ
   pub faults : ℕ
 
--- a screen: the bytes that it was given, the number of the call that fails, and how many calls and faults there were
+-- a screen: the bytes that it was given, the number of the call that fails, and how many
+-- calls and faults there were
 pub record Screen : Type 0 where
   pub given : List ℕ
   pub fail_at : Option ℕ

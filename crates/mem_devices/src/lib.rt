@@ -1,5 +1,5 @@
-//! The devices of a session in memory but for the tree: keys that come, a screen, a shell, a clock; and what makes any
-//! device tell nothing.
+//! The devices of a session in memory but for the tree: keys that come, a screen, a shell, a clock; and
+//! what makes any device tell nothing.
 #![tactic(auto)]
 
 mod clock;

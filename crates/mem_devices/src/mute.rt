@@ -1,9 +1,12 @@
 //! A device that passes each call on and tells nothing.
 ghost use Rattle.std.specs.Prelude.{◌≡◌, ◌+◌, ◌^◌, ◌≤◌, length, None, IfOk};
 ghost use Rattle.tree_trait.specs.FileSystem.{node};
-ghost use Rattle.tree_trait.specs.Calls.{Stat, ListFolder, ReadAt, ReadLink, MakeFile, WriteAt, SetMode, MakeFolder, MakeLink, Rename, RemoveFile, RemoveFolder, SyncFile, SyncFolder};
+ghost use Rattle.tree_trait.specs.Calls.{Stat, ListFolder, ReadAt, ReadLink, MakeFile};
+ghost use Rattle.tree_trait.specs.Calls.{WriteAt, SetMode, MakeFolder, MakeLink, Rename};
+ghost use Rattle.tree_trait.specs.Calls.{RemoveFile, RemoveFolder, SyncFile, SyncFolder};
 ghost use Rattle.tree_trait.specs.Change.{current, found_node};
-ghost use Rattle.tree_trait.specs.Answers.{HasCause, count_after, IfKnown, Reads, Performs, IsMeta, IsListing, IsRead, IsLinkText, IsInRange, IsAscending};
+ghost use Rattle.tree_trait.specs.Answers.{HasCause, count_after, IfKnown, Reads, Performs, IsMeta};
+ghost use Rattle.tree_trait.specs.Answers.{IsListing, IsRead, IsLinkText, IsInRange, IsAscending};
 ghost use Rattle.tree_trait.specs.Devices.{HasTaken, HasPut, HasRun};
 
 use mc_text::{Path, Text};
@@ -48,10 +51,12 @@ impl<T: ReadTree> ReadTree for Mute<T> {
     ghost fault_count = { λ m. T.fault_count m.inner };
 
     fn stat(&mut self, alloc: Global, path: &Path) -> Result<Meta, TreeError>
-        ensures passed_on { IfKnown (T.contents self.old.inner) (λ log. Reads log (Stat path.now) result (IsMeta (current log) path.now)) }
+        ensures passed_on { IfKnown (T.contents self.old.inner) (λ log.
+            Reads log (Stat path.now) result (IsMeta (current log) path.now)) }
         ensures same { T.contents self.new.inner ≡ T.contents self.old.inner }
         ensures in_range { IfOk result IsInRange }
-        ensures cause { HasCause TreeError.Fault (T.fault_count self.old.inner) (T.fault_count self.new.inner) result }
+        ensures cause { HasCause TreeError.Fault (T.fault_count self.old.inner)
+            (T.fault_count self.new.inner) result }
         ensures counts { T.fault_count self.new.inner ≡ count_after (T.fault_count self.old.inner) result }
     {
         self.inner.stat(alloc, path)
@@ -59,10 +64,12 @@ impl<T: ReadTree> ReadTree for Mute<T> {
 
     fn list(&mut self, alloc: Global, path: &Path) -> Result<Children, TreeError>
         ensures passed_on { IfKnown (T.contents self.old.inner) (λ log.
-            Reads log (ListFolder path.now) result (IsListing (current log) (found_node (current log) path.now))) }
+            Reads log (ListFolder path.now) result
+            (IsListing (current log) (found_node (current log) path.now))) }
         ensures same { T.contents self.new.inner ≡ T.contents self.old.inner }
         ensures ascending { IfOk result (λ children. IsAscending children.names) }
-        ensures cause { HasCause TreeError.Fault (T.fault_count self.old.inner) (T.fault_count self.new.inner) result }
+        ensures cause { HasCause TreeError.Fault (T.fault_count self.old.inner)
+            (T.fault_count self.new.inner) result }
         ensures counts { T.fault_count self.new.inner ≡ count_after (T.fault_count self.old.inner) result }
     {
         self.inner.list(alloc, path)
@@ -75,11 +82,14 @@ impl<T: ReadTree> ReadTree for Mute<T> {
         offset: u64,
         into: &mut [u8],
     ) -> Result<usize, TreeError>
-        ensures passed_on { IfKnown (T.contents self.old.inner) (λ log. Reads log (ReadAt path.now offset (length into.old)) result
-            (IsRead (node (current log) (found_node (current log) path.now)).bytes offset into.old into.new)) }
+        ensures passed_on { IfKnown (T.contents self.old.inner) (λ log.
+            Reads log (ReadAt path.now offset (length into.old)) result
+            (IsRead (node (current log) (found_node (current log) path.now)).bytes offset
+            into.old into.new)) }
         ensures same { T.contents self.new.inner ≡ T.contents self.old.inner }
         ensures in_room { IfOk result (λ count. count ≤ length into.old) }
-        ensures cause { HasCause TreeError.Fault (T.fault_count self.old.inner) (T.fault_count self.new.inner) result }
+        ensures cause { HasCause TreeError.Fault (T.fault_count self.old.inner)
+            (T.fault_count self.new.inner) result }
         ensures counts { T.fault_count self.new.inner ≡ count_after (T.fault_count self.old.inner) result }
     {
         self.inner.read_at(alloc, path, offset, into)
@@ -90,7 +100,8 @@ impl<T: ReadTree> ReadTree for Mute<T> {
             (λ text. text ≡ (node (current log) (found_node (current log) path.now)).bytes)) }
         ensures same { T.contents self.new.inner ≡ T.contents self.old.inner }
         ensures link_text { IfOk result IsLinkText }
-        ensures cause { HasCause TreeError.Fault (T.fault_count self.old.inner) (T.fault_count self.new.inner) result }
+        ensures cause { HasCause TreeError.Fault (T.fault_count self.old.inner)
+            (T.fault_count self.new.inner) result }
         ensures counts { T.fault_count self.new.inner ≡ count_after (T.fault_count self.old.inner) result }
     {
         self.inner.read_link(alloc, path)
@@ -106,7 +117,8 @@ impl<T: Tree> Tree for Mute<T> {
         requires mode { mode ≤ 0o7777 }
         ensures passed_on { IfKnown (T.contents self.old.inner) (λ log.
             Performs log (MakeFile path.now mode) result (T.contents self.new.inner)) }
-        ensures cause { HasCause TreeError.Fault (T.fault_count self.old.inner) (T.fault_count self.new.inner) result }
+        ensures cause { HasCause TreeError.Fault (T.fault_count self.old.inner)
+            (T.fault_count self.new.inner) result }
         ensures counts { T.fault_count self.new.inner ≡ count_after (T.fault_count self.old.inner) result }
     {
         self.inner.make_file(alloc, path, mode)
@@ -122,7 +134,8 @@ impl<T: Tree> Tree for Mute<T> {
         requires fits { offset + length bytes.now ≤ 2 ^ 63 }
         ensures passed_on { IfKnown (T.contents self.old.inner) (λ log.
             Performs log (WriteAt path.now offset bytes.now) result (T.contents self.new.inner)) }
-        ensures cause { HasCause TreeError.Fault (T.fault_count self.old.inner) (T.fault_count self.new.inner) result }
+        ensures cause { HasCause TreeError.Fault (T.fault_count self.old.inner)
+            (T.fault_count self.new.inner) result }
         ensures counts { T.fault_count self.new.inner ≡ count_after (T.fault_count self.old.inner) result }
     {
         self.inner.write_at(alloc, path, offset, bytes)
@@ -132,7 +145,8 @@ impl<T: Tree> Tree for Mute<T> {
         requires mode { mode ≤ 0o7777 }
         ensures passed_on { IfKnown (T.contents self.old.inner) (λ log.
             Performs log (SetMode path.now mode) result (T.contents self.new.inner)) }
-        ensures cause { HasCause TreeError.Fault (T.fault_count self.old.inner) (T.fault_count self.new.inner) result }
+        ensures cause { HasCause TreeError.Fault (T.fault_count self.old.inner)
+            (T.fault_count self.new.inner) result }
         ensures counts { T.fault_count self.new.inner ≡ count_after (T.fault_count self.old.inner) result }
     {
         self.inner.set_mode(alloc, path, mode)
@@ -142,7 +156,8 @@ impl<T: Tree> Tree for Mute<T> {
         requires mode { mode ≤ 0o7777 }
         ensures passed_on { IfKnown (T.contents self.old.inner) (λ log.
             Performs log (MakeFolder path.now mode) result (T.contents self.new.inner)) }
-        ensures cause { HasCause TreeError.Fault (T.fault_count self.old.inner) (T.fault_count self.new.inner) result }
+        ensures cause { HasCause TreeError.Fault (T.fault_count self.old.inner)
+            (T.fault_count self.new.inner) result }
         ensures counts { T.fault_count self.new.inner ≡ count_after (T.fault_count self.old.inner) result }
     {
         self.inner.make_folder(alloc, path, mode)
@@ -152,7 +167,8 @@ impl<T: Tree> Tree for Mute<T> {
         requires link_text { IsLinkText text.now }
         ensures passed_on { IfKnown (T.contents self.old.inner) (λ log.
             Performs log (MakeLink path.now text.now) result (T.contents self.new.inner)) }
-        ensures cause { HasCause TreeError.Fault (T.fault_count self.old.inner) (T.fault_count self.new.inner) result }
+        ensures cause { HasCause TreeError.Fault (T.fault_count self.old.inner)
+            (T.fault_count self.new.inner) result }
         ensures counts { T.fault_count self.new.inner ≡ count_after (T.fault_count self.old.inner) result }
     {
         self.inner.make_link(alloc, path, text)
@@ -161,7 +177,8 @@ impl<T: Tree> Tree for Mute<T> {
     fn rename(&mut self, alloc: Global, from: &Path, to: &Path) -> Result<(), TreeError>
         ensures passed_on { IfKnown (T.contents self.old.inner) (λ log.
             Performs log (Rename from.now to.now) result (T.contents self.new.inner)) }
-        ensures cause { HasCause TreeError.Fault (T.fault_count self.old.inner) (T.fault_count self.new.inner) result }
+        ensures cause { HasCause TreeError.Fault (T.fault_count self.old.inner)
+            (T.fault_count self.new.inner) result }
         ensures counts { T.fault_count self.new.inner ≡ count_after (T.fault_count self.old.inner) result }
     {
         self.inner.rename(alloc, from, to)
@@ -170,7 +187,8 @@ impl<T: Tree> Tree for Mute<T> {
     fn remove_file(&mut self, alloc: Global, path: &Path) -> Result<(), TreeError>
         ensures passed_on { IfKnown (T.contents self.old.inner) (λ log.
             Performs log (RemoveFile path.now) result (T.contents self.new.inner)) }
-        ensures cause { HasCause TreeError.Fault (T.fault_count self.old.inner) (T.fault_count self.new.inner) result }
+        ensures cause { HasCause TreeError.Fault (T.fault_count self.old.inner)
+            (T.fault_count self.new.inner) result }
         ensures counts { T.fault_count self.new.inner ≡ count_after (T.fault_count self.old.inner) result }
     {
         self.inner.remove_file(alloc, path)
@@ -179,7 +197,8 @@ impl<T: Tree> Tree for Mute<T> {
     fn remove_folder(&mut self, alloc: Global, path: &Path) -> Result<(), TreeError>
         ensures passed_on { IfKnown (T.contents self.old.inner) (λ log.
             Performs log (RemoveFolder path.now) result (T.contents self.new.inner)) }
-        ensures cause { HasCause TreeError.Fault (T.fault_count self.old.inner) (T.fault_count self.new.inner) result }
+        ensures cause { HasCause TreeError.Fault (T.fault_count self.old.inner)
+            (T.fault_count self.new.inner) result }
         ensures counts { T.fault_count self.new.inner ≡ count_after (T.fault_count self.old.inner) result }
     {
         self.inner.remove_folder(alloc, path)
@@ -188,7 +207,8 @@ impl<T: Tree> Tree for Mute<T> {
     fn sync_file(&mut self, alloc: Global, path: &Path) -> Result<(), TreeError>
         ensures passed_on { IfKnown (T.contents self.old.inner) (λ log.
             Performs log (SyncFile path.now) result (T.contents self.new.inner)) }
-        ensures cause { HasCause TreeError.Fault (T.fault_count self.old.inner) (T.fault_count self.new.inner) result }
+        ensures cause { HasCause TreeError.Fault (T.fault_count self.old.inner)
+            (T.fault_count self.new.inner) result }
         ensures counts { T.fault_count self.new.inner ≡ count_after (T.fault_count self.old.inner) result }
     {
         self.inner.sync_file(alloc, path)
@@ -197,7 +217,8 @@ impl<T: Tree> Tree for Mute<T> {
     fn sync_folder(&mut self, alloc: Global, path: &Path) -> Result<(), TreeError>
         ensures passed_on { IfKnown (T.contents self.old.inner) (λ log.
             Performs log (SyncFolder path.now) result (T.contents self.new.inner)) }
-        ensures cause { HasCause TreeError.Fault (T.fault_count self.old.inner) (T.fault_count self.new.inner) result }
+        ensures cause { HasCause TreeError.Fault (T.fault_count self.old.inner)
+            (T.fault_count self.new.inner) result }
         ensures counts { T.fault_count self.new.inner ≡ count_after (T.fault_count self.old.inner) result }
     {
         self.inner.sync_folder(alloc, path)
@@ -210,9 +231,11 @@ impl<T: Source> Source for Mute<T> {
     ghost fault_count = { λ m. T.fault_count m.inner };
 
     fn take(&mut self, into: &mut [u8]) -> Result<usize, SourceFault>
-        ensures passed_on { IfKnown (T.left self.old.inner) (λ bytes. HasTaken bytes into.new result (T.left self.new.inner)) }
+        ensures passed_on { IfKnown (T.left self.old.inner) (λ bytes.
+            HasTaken bytes into.new result (T.left self.new.inner)) }
         ensures in_room { IfOk result (λ count. count ≤ length into.old) }
-        ensures cause { HasCause (record {}) (T.fault_count self.old.inner) (T.fault_count self.new.inner) result }
+        ensures cause { HasCause (record {}) (T.fault_count self.old.inner)
+            (T.fault_count self.new.inner) result }
     {
         self.inner.take(into)
     }
@@ -228,8 +251,10 @@ impl<T: Sink> Sink for Mute<T> {
     ghost fault_count = { λ m. T.fault_count m.inner };
 
     fn put(&mut self, alloc: Global, bytes: &[u8]) -> Result<(), SinkError>
-        ensures passed_on { IfKnown (T.given self.old.inner) (λ before. HasPut before bytes.now result (T.given self.new.inner)) }
-        ensures cause { HasCause SinkError.Fault (T.fault_count self.old.inner) (T.fault_count self.new.inner) result }
+        ensures passed_on { IfKnown (T.given self.old.inner) (λ before.
+            HasPut before bytes.now result (T.given self.new.inner)) }
+        ensures cause { HasCause SinkError.Fault (T.fault_count self.old.inner)
+            (T.fault_count self.new.inner) result }
     {
         self.inner.put(alloc, bytes)
     }
@@ -246,9 +271,11 @@ impl<T: Spawner> Spawner for Mute<T> {
 
     fn run(&mut self, alloc: Global, folder: &Path, command: &str) -> Result<RunOutcome, SpawnError>
         ensures passed_on { IfKnown (T.runs self.old.inner) (λ before.
-            HasRun before (record { folder = folder.now; command = command.now }) result (T.runs self.new.inner)) }
+            HasRun before (record { folder = folder.now; command = command.now }) result
+            (T.runs self.new.inner)) }
         ensures kept { IfOk result (λ outcome. length outcome.output ≤ OUTPUT_BYTES) }
-        ensures cause { HasCause SpawnError.Fault (T.fault_count self.old.inner) (T.fault_count self.new.inner) result }
+        ensures cause { HasCause SpawnError.Fault (T.fault_count self.old.inner)
+            (T.fault_count self.new.inner) result }
     {
         self.inner.run(alloc, folder, command)
     }

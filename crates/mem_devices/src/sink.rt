@@ -22,12 +22,17 @@ impl Model for MemSink {
 
     ghost Value = { Screen };
 
-    ghost view = { λ s. record { given = s.given.items; fail_at = s.fail_at; called = s.called; faults = s.faults } };
+    ghost view = { λ s. record {
+      given = s.given.items;
+      fail_at = s.fail_at;
+      called = s.called;
+      faults = s.faults;
+    } };
 }
 
 impl MemSink {
-    /// A screen that was given nothing yet. `fail_at` is the number, counted from 1, of the call that fails. It takes no
-    /// memory.
+    /// A screen that was given nothing yet. `fail_at` is the number, counted from 1, of the call that
+    /// fails. It takes no memory.
     pub fn new(alloc: Global, fail_at: Option<u64>) -> MemSink
         ensures { result ≡ record { given = []; fail_at = fail_at; called = 0; faults = 0 } }
     {
@@ -57,7 +62,8 @@ impl Sink for MemSink {
         ensures cause { HasCause SinkError.Fault self.old.faults self.new.faults result }
         ensures called { self.new.called ≡ one_more self.old.called }
         ensures named { self.new.fail_at ≡ self.old.fail_at }
-        ensures fails { (result ≡ Err SinkError.Fault) ↔ (self.old.fail_at ≡ Some (one_more self.old.called)) }
+        ensures fails { (result ≡ Err SinkError.Fault)
+            ↔ (self.old.fail_at ≡ Some (one_more self.old.called)) }
     {
         self.called = self.called.saturating_add(1);
         if self.fail_at == Some(self.called) {

@@ -25,7 +25,12 @@ impl Model for MemSource {
 
     ghost Value = { Keys };
 
-    ghost view = { λ s. record { left = drop s.taken s.bytes; fail_at = s.fail_at; called = s.called; faults = s.faults } };
+    ghost view = { λ s. record {
+      left = drop s.taken s.bytes;
+      fail_at = s.fail_at;
+      called = s.called;
+      faults = s.faults;
+    } };
 
     ghost invariant = { λ s. s.taken ≤ length s.bytes };
 }

@@ -98,7 +98,8 @@ impl Spawner for FakeSpawner {
     ghost fault_count = { λ s. s.faults };
 
     fn run(&mut self, alloc: Global, folder: &Path, command: &str) -> Result<RunOutcome, SpawnError>
-        ensures answer { HasRun self.old.ran (record { folder = folder.now; command = command.now }) result (Some self.new.ran) }
+        ensures answer { HasRun self.old.ran (record { folder = folder.now; command = command.now }) result
+            (Some self.new.ran) }
         ensures kept { IfOk result (λ outcome. length outcome.output ≤ OUTPUT_BYTES) }
         ensures cause { HasCause SpawnError.Fault self.old.faults self.new.faults result }
         ensures outcome { result ≢ Err SpawnError.Memory → result ≡ first_outcome self.old.outcomes }

@@ -1,12 +1,14 @@
 -- What is to be done for a call, and what becomes of it.
-use Rattle.std.specs.Prelude.{pos, ◌≡◌, ◌<◌, ℕ, ℤ, Bool, true, false, ⊤, List, [], ◌∷◌, ◌++◌, length, Option, Some, None, unwrap_or, slice_get, Result, Ok, Err}
+use Rattle.std.specs.Prelude.{pos, ◌≡◌, ◌<◌, ℕ, ℤ, Bool, true, false, ⊤, List, [], ◌∷◌, ◌++◌}
+use Rattle.std.specs.Prelude.{length, Option, Some, None, unwrap_or, slice_get, Result, Ok, Err}
 use Rattle.tree_trait.specs.declared.file_system.NameEdit.{NameEdit}
 use Rattle.tree_trait.specs.declared.file_system.FileSystem.{FileSystem}
 use Rattle.tree_trait.specs.declared.calls.TreeError.{TreeError}
 use Rattle.tree_trait.specs.declared.calls.TreeError.TheVariants.{Fault, Memory}
 use Rattle.tree_trait.specs.Calls.{Call}
 use Rattle.tree_trait.specs.Refusals.{refusal_of}
-use Rattle.tree_trait.specs.Change.{Change, Nothing, Makes, Moves, Removes, Sets, Writes, Syncs, after_change, edit, change_of, torn_write}
+use Rattle.tree_trait.specs.Change.{Change, Nothing, Makes, Moves, Removes, Sets, Writes}
+use Rattle.tree_trait.specs.Change.{Syncs, after_change, edit, change_of, torn_write}
 use Rattle.mem_tree.specs.declared.record.Record.{Record}
 use Rattle.mem_tree.specs.declared.record.Record.TheVariants.{Idle}
 use Rattle.mem_tree.specs.declared.step.Step.{Step}
@@ -23,7 +25,8 @@ at_edit (Some e) change = change e
 abbrev pub step_change : FileSystem → Step → Change
 step_change s Stay = Nothing
 step_change s (Make folder name made) = Makes folder name made
-step_change s (Move at to name moved replaced) = at_edit (slice_get s.names at) (λ e. Moves e.folder e.name to name moved replaced)
+step_change s (Move at to name moved replaced) =
+    at_edit (slice_get s.names at) (λ e. Moves e.folder e.name to name moved replaced)
 step_change s (Unlink at node) = at_edit (slice_get s.names at) (λ e. Removes e.folder e.name node)
 step_change s (SetMode node mode) = Sets node mode
 step_change s (Write node bytes mtime) = Writes node bytes mtime
@@ -89,15 +92,19 @@ takes_none (Err Memory) = false
 takes_none (Err e) = true
 
 -- a change is made among the names that stand, and is recorded
-pub record IsDone (s : FileSystem) (old : List Record) (c : Change) (new_s : FileSystem) (new : List Record) : Type 0 where
+pub record IsDone (s : FileSystem) (old : List Record) (c : Change) (new_s : FileSystem)
+    (new : List Record) : Type 0 where
   pub done : Record
   pub recorded : new ≡ old ++ done ∷ []
   pub change : change_by done ≡ c
   pub stands : new_s ≡ standing_after s c
 
 -- The plan is carried out, unless the call is due to fail or there is no memory.
-abbrev pub Concludes : {A : Type 0} → FileSystem → List Record → Bool → Result Step TreeError → Result A TreeError → FileSystem → List Record → Type 0
-Concludes s old due plan (Ok x) new_s new = (due ≡ false) × ((step : Step) × (plan ≡ Ok step) × IsDone s old (step_change s step) new_s new)
-Concludes s old due plan (Err Fault) new_s new = (due ≡ true) × ((step : Step) × (plan ≡ Ok step) × IsDone s old (torn_step step) new_s new)
+abbrev pub Concludes : {A : Type 0} → FileSystem → List Record → Bool → Result Step TreeError
+    → Result A TreeError → FileSystem → List Record → Type 0
+Concludes s old due plan (Ok x) new_s new =
+    (due ≡ false) × ((step : Step) × (plan ≡ Ok step) × IsDone s old (step_change s step) new_s new)
+Concludes s old due plan (Err Fault) new_s new =
+    (due ≡ true) × ((step : Step) × (plan ≡ Ok step) × IsDone s old (torn_step step) new_s new)
 Concludes s old due plan (Err Memory) new_s new = (new_s ≡ s) × (new ≡ old)
 Concludes s old due plan (Err e) new_s new = (plan ≡ Err e) × IsDone s old Nothing new_s new

@@ -15,7 +15,8 @@ use Rattle.mem_tree.specs.declared.choice.Choice.{Choice}
 use Rattle.mem_tree.specs.Fills.{filled_bytes}
 use Rattle.tree_trait.specs.CrashImages.{image_by_bits}
 
--- `fails` names the calls that fail, `called` counts the calls, and for so many calls as `spare` there is room
+-- `fails` names the calls that fail, `called` counts the calls, and for so many calls
+-- as `spare` there is room
 pub record Held : Type 0 where
   pub log : CallLog
   pub time : ℤ
@@ -28,8 +29,8 @@ pub record Held : Type 0 where
 abbrev pub log_of : FileSystem → List Record → CallLog
 log_of s records = record { opening = s; changes = changes_by records }
 
--- What a tree in memory keeps true of its opening, its records and the names that stand: each node fits, also in each
--- image; and what was a tree at the opening is a tree.
+-- What a tree in memory keeps true of its opening, its records and the names that stand: each node fits,
+-- also in each image; and what was a tree at the opening is a tree.
 pub record IsKept (opening : FileSystem) (records : List Record) (stands : FileSystem) : Type 0 where
   pub stands_is : stands ≡ standing (after opening records)
   pub sound : IsSound opening
@@ -58,15 +59,26 @@ file_node mode mtime bytes = record { kind = File; bytes = bytes; mode = mode; m
 
 -- the log whose opening has a node more, and which has no calls
 abbrev pub made_in : CallLog → Route → Node → CallLog
-made_in t path made = record { opening = after_change t.opening (of_name t.opening path (λ f name. Makes f name made)); changes = [] }
+made_in t path made = record {
+  opening = after_change t.opening (of_name t.opening path (λ f name. Makes f name made));
+  changes = [];
+}
 
 -- a tree that was not called yet
 abbrev pub unused_tree : FileSystem → ℤ → Held
-unused_tree s time = record { log = record { opening = s; changes = [] }; time = time; fails = []; called = 0; faults = 0; spare = 0 }
+unused_tree s time = record {
+  log = record { opening = s; changes = [] };
+  time = time;
+  fails = [];
+  called = 0;
+  faults = 0;
+  spare = 0;
+}
 
 -- the image of a choice, after so many calls
 abbrev pub image_chosen : CallLog → ℕ → Choice → FileSystem
-image_chosen log at_call choice = image_by_bits (filled_bytes choice.fill) log.opening (take at_call log.changes) choice.keep
+image_chosen log at_call choice =
+    image_by_bits (filled_bytes choice.fill) log.opening (take at_call log.changes) choice.keep
 
 -- a link
 abbrev pub link_node : List ℕ → Node

@@ -1,6 +1,7 @@
--- The names of a file system that lead to a node. A tree in memory keeps these, so that it needs no memory to take one
--- out.
-use Rattle.std.specs.Prelude.{◌≡◌, ℕ, false, ⊤, is_some, if◌then◌else◌, List, [], ◌∷◌, Option, None, Some, ◌<◌, ◌≤◌, ◌-◌, true, drop, length, slice_get}
+-- The names of a file system that lead to a node. A tree in memory keeps these, so that it needs
+-- no memory to take one out.
+use Rattle.std.specs.Prelude.{◌≡◌, ℕ, false, ⊤, is_some, if◌then◌else◌, List, [], ◌∷◌, Option}
+use Rattle.std.specs.Prelude.{None, Some, ◌<◌, ◌≤◌, ◌-◌, true, drop, length, slice_get}
 use Rattle.std.specs.List.{list_any}
 use Rattle.tree_trait.specs.declared.file_system.NameEdit.{NameEdit}
 use Rattle.tree_trait.specs.declared.file_system.FileSystem.{FileSystem}
@@ -34,4 +35,5 @@ IsOnce (e ∷ edits) = (list_any (is_of e.folder e.name) edits ≡ false) × IsO
 abbrev pub IsPlaceBehind : ℕ → List ℕ → List NameEdit → Option ℕ → Type 0
 IsPlaceBehind folder name edits None = list_any (is_of folder name) (drop 1 edits) ≡ false
 IsPlaceBehind folder name edits (Some k) =
-    (1 ≤ k) × (k < length edits) × ((e : NameEdit) × (slice_get (drop 1 edits) (k - 1) ≡ Some e) × (is_of folder name e ≡ true))
+    (1 ≤ k) × (k < length edits)
+    × ((e : NameEdit) × (slice_get (drop 1 edits) (k - 1) ≡ Some e) × (is_of folder name e ≡ true))

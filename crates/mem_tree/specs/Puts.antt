@@ -1,5 +1,6 @@
 -- What keeps a thing from being put into the opening: what would refuse its making, but never a mode.
-use Rattle.std.specs.Prelude.{◌≡◌, ◌≢◌, ℕ, ◌+◌, Bool, nat_lt, is_some, if◌then◌else◌, List, [], ◌∷◌, length, map, ◌++◌, Option, Some, None, Result, MatchResult}
+use Rattle.std.specs.Prelude.{◌≡◌, ◌≢◌, ℕ, ◌+◌, Bool, nat_lt, is_some, if◌then◌else◌, List, []}
+use Rattle.std.specs.Prelude.{◌∷◌, length, map, ◌++◌, Option, Some, None, Result, MatchResult}
 use Rattle.mc_text.specs.Routes.{Route}
 use Rattle.tree_trait.specs.declared.file_system.Node.{Node}
 use Rattle.tree_trait.specs.declared.file_system.FileSystem.{FileSystem}
@@ -30,7 +31,8 @@ is_full s path count =
 -- what refuses a file of so many bytes: what would refuse `make_file`, and then `write_at`
 abbrev pub put_file_refusal : FileSystem → Route → ℕ → Option TreeError
 put_file_refusal s path count =
-    if is_some (put_refusal s path) then put_refusal s path else if is_full s path count then Some NoSpace else None
+    if is_some (put_refusal s path) then put_refusal s path
+    else if is_full s path count then Some NoSpace else None
 
 -- a call is refused by this, if it found the memory that it needed
 abbrev pub IsRefusedBy : {A : Type 0} → Option TreeError → Result A TreeError → Type 0
@@ -38,9 +40,11 @@ IsRefusedBy refusal result = MatchResult result (λ _. refusal ≡ None) (λ e. 
 
 -- a mount more, which begins at this folder
 abbrev pub with_mount : FileSystem → ℕ → ℕ → FileSystem
-with_mount s folder capacity = record s { mounts = s.mounts ++ record { folder = folder; capacity = capacity } ∷ [] }
+with_mount s folder capacity =
+    record s { mounts = s.mounts ++ record { folder = folder; capacity = capacity } ∷ [] }
 
 -- a folder more at a path, where a mount begins
 abbrev pub mounted_system : FileSystem → Route → ℕ → FileSystem
 mounted_system s path capacity =
-    with_mount (after_change s (of_name s path (λ f name. Makes f name (folder_node 0o755 0)))) (length s.nodes) capacity
+    with_mount (after_change s (of_name s path (λ f name. Makes f name (folder_node 0o755 0))))
+    (length s.nodes) capacity

@@ -1,7 +1,8 @@
 -- What the records of a tree in memory stand for.
 use Rattle.std.specs.Prelude.{List, map}
 use Rattle.tree_trait.specs.declared.file_system.FileSystem.{FileSystem}
-use Rattle.tree_trait.specs.Change.{Change, Nothing, Makes, Moves, Removes, Sets, Writes, Syncs, after_changes}
+use Rattle.tree_trait.specs.Change.{Change, Nothing, Makes, Moves, Removes}
+use Rattle.tree_trait.specs.Change.{Sets, Writes, Syncs, after_changes}
 use Rattle.mem_tree.specs.declared.record.Record.{Record}
 use Rattle.mem_tree.specs.declared.record.Record.TheVariants.{Idle, Make, Move, Unlink, SetMode, Write, Flush}
 

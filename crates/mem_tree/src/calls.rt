@@ -1,9 +1,12 @@
 //! The calls of a tree in memory.
 ghost use Rattle.std.specs.Prelude.{◌≡◌, ◌+◌, ◌^◌, ◌≤◌, length, Some, IfOk};
 ghost use Rattle.tree_trait.specs.FileSystem.{node};
-ghost use Rattle.tree_trait.specs.Calls.{Stat, ListFolder, ReadAt, ReadLink, MakeFile, WriteAt, SetMode, MakeFolder, MakeLink, Rename, RemoveFile, RemoveFolder, SyncFile, SyncFolder};
+ghost use Rattle.tree_trait.specs.Calls.{Stat, ListFolder, ReadAt, ReadLink, MakeFile};
+ghost use Rattle.tree_trait.specs.Calls.{WriteAt, SetMode, MakeFolder, MakeLink, Rename};
+ghost use Rattle.tree_trait.specs.Calls.{RemoveFile, RemoveFolder, SyncFile, SyncFolder};
 ghost use Rattle.tree_trait.specs.Change.{current, found_node};
-ghost use Rattle.tree_trait.specs.Answers.{HasCause, count_after, Performs, Reads, IsMeta, IsListing, IsRead, IsLinkText, IsInRange, IsAscending};
+ghost use Rattle.tree_trait.specs.Answers.{HasCause, count_after, Performs, Reads, IsMeta};
+ghost use Rattle.tree_trait.specs.Answers.{IsListing, IsRead, IsLinkText, IsInRange, IsAscending};
 ghost use Rattle.mem_tree.specs.Counted.{IsCounted, TakesOnePlace};
 
 use crate::counts::{count, count_fault, fail_if};
@@ -63,7 +66,8 @@ impl ReadTree for MemTree {
         into: &mut [u8],
     ) -> Result<usize, TreeError>
         ensures answer { Reads self.old.log (ReadAt path.now offset (length into.old)) result
-            (IsRead (node (current self.old.log) (found_node (current self.old.log) path.now)).bytes offset into.old into.new) }
+            (IsRead (node (current self.old.log) (found_node (current self.old.log) path.now)).bytes offset
+            into.old into.new) }
         ensures same { self.new.log ≡ self.old.log }
         ensures in_room { IfOk result (λ count. count ≤ length into.old) }
         ensures cause { HasCause TreeError.Fault self.old.faults self.new.faults result }
@@ -79,7 +83,8 @@ impl ReadTree for MemTree {
 
     fn read_link(&mut self, alloc: Global, path: &Path) -> Result<Text, TreeError>
         ensures answer { Reads self.old.log (ReadLink path.now) result
-            (λ text. text ≡ (node (current self.old.log) (found_node (current self.old.log) path.now)).bytes) }
+            (λ text.
+            text ≡ (node (current self.old.log) (found_node (current self.old.log) path.now)).bytes) }
         ensures same { self.new.log ≡ self.old.log }
         ensures link_text { IfOk result IsLinkText }
         ensures cause { HasCause TreeError.Fault self.old.faults self.new.faults result }
@@ -121,7 +126,8 @@ impl Tree for MemTree {
         bytes: &[u8],
     ) -> Result<(), TreeError>
         requires fits { offset + length bytes.now ≤ 2 ^ 63 }
-        ensures answer { Performs self.old.log (WriteAt path.now offset bytes.now) result (Some self.new.log) }
+        ensures answer { Performs self.old.log (WriteAt path.now offset bytes.now) result
+            (Some self.new.log) }
         ensures cause { HasCause TreeError.Fault self.old.faults self.new.faults result }
         ensures counts { self.new.faults ≡ count_after self.old.faults result }
         ensures counted { IsCounted self.old self.new result }

@@ -178,7 +178,8 @@ fn leave(
     stands: bool,
     fill: Fill,
 ) -> Result<(), NoMemory>
-    ensures { OnOk result (left.new ≡ (if stands then after_change left.old (change_by first.now) else without (filled_bytes fill) left.old (change_by first.now))) }
+    ensures { OnOk result (left.new ≡ (if stands then after_change left.old (change_by first.now)
+        else without (filled_bytes fill) left.old (change_by first.now))) }
 {
     if stands {
         apply(alloc, left, first)
@@ -195,7 +196,8 @@ fn choose(
     keep: &[bool],
     fill: Fill,
 ) -> Result<(), NoMemory>
-    ensures { OnOk result (left.new ≡ image_by_bits (filled_bytes fill) left.old (changes_by records.now) keep.now) }
+    ensures { OnOk result
+        (left.new ≡ image_by_bits (filled_bytes fill) left.old (changes_by records.now) keep.now) }
 {
     match records {
         [] => Ok(()),
@@ -227,7 +229,8 @@ pub fn image_of(
     keep: &[bool],
     fill: Fill,
 ) -> Result<FileSystem, NoMemory>
-    ensures { IfOk result (λ image. image ≡ image_by_bits (filled_bytes fill) opening.now (changes_by records.now) keep.now) }
+    ensures { IfOk result
+        (λ image. image ≡ image_by_bits (filled_bytes fill) opening.now (changes_by records.now) keep.now) }
 {
     let mut image = copy_of(alloc, opening)?;
     choose(alloc, &mut image, records, keep, fill)?;

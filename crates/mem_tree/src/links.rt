@@ -42,7 +42,8 @@ fn text_of(alloc: Global, bytes: &[u8]) -> Result<Text, NoMemory>
 /// The answer of `read_link`.
 pub fn read_link_text(alloc: Global, fs: &FileSystem, names: &[Name]) -> Result<Text, TreeError>
     requires { (i : ℕ) → is_link (node fs.now i) ≡ true → IsLink (node fs.now i).bytes }
-    ensures answer { IsTold fs.now (ReadLink (reverse names.now)) result (λ text. text ≡ (node fs.now (found_node fs.now (reverse names.now))).bytes) }
+    ensures answer { IsTold fs.now (ReadLink (reverse names.now)) result (λ text.
+        text ≡ (node fs.now (found_node fs.now (reverse names.now))).bytes) }
     ensures link_text { IfOk result IsLinkText }
 {
     match refuse_read_link(fs, names) {

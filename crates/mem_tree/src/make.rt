@@ -1,5 +1,6 @@
 //! What the opening of a tree in memory is made of.
-ghost use Rattle.std.specs.Prelude.{◌≡◌, ◌∷◌, [], Ok, IfOk, OnOk, OnErr, ◌<◌, ◌-◌, ◌&&◌, is_none, drop, take, length, reverse};
+ghost use Rattle.std.specs.Prelude.{◌≡◌, ◌∷◌, [], Ok, IfOk, OnOk, OnErr, ◌<◌, ◌-◌};
+ghost use Rattle.std.specs.Prelude.{◌&&◌, is_none, drop, take, length, reverse};
 ghost use Rattle.tree_trait.specs.Change.{Makes, after_change, found_node, of_name};
 ghost use Rattle.tree_trait.specs.Refusals.{reached_node, step};
 ghost use Rattle.mem_tree.specs.Held.{fresh, folder_node, file_node, other_node, IsKept};
@@ -126,7 +127,8 @@ fn refuse_in(opening: &FileSystem, front: &[Name], folder: usize, name: &Name) -
 
 /// Only the mount's room keeps a file of so many bytes from being put at a path.
 pub fn is_full_for(opening: &FileSystem, names: &[Name], count: usize) -> bool
-    ensures { result ≡ (is_none (put_refusal opening.now (reverse names.now)) && is_full opening.now (reverse names.now) count) }
+    ensures { result ≡ (is_none (put_refusal opening.now (reverse names.now))
+        && is_full opening.now (reverse names.now) count) }
 {
     refuse_put(opening, names).is_none() && is_full(opening, mount_of(opening, names), count as u64)
 }
@@ -179,7 +181,8 @@ pub fn put_node(
 ) -> Result<(), TreeError>
     requires kept { IsKept opening.old [] stands.old }
     requires fits { FitsNode node }
-    ensures made { OnOk result (opening.new ≡ after_change opening.old (of_name opening.old (reverse names.now) (λ f name. Makes f name node))) }
+    ensures made { OnOk result (opening.new
+        ≡ after_change opening.old (of_name opening.old (reverse names.now) (λ f name. Makes f name node))) }
     ensures same { OnErr result (opening.new ≡ opening.old) }
     ensures kept { IsKept opening.new [] stands.new }
     ensures refusal { IsRefusedBy (put_refusal opening.old (reverse names.now)) result }
@@ -206,7 +209,8 @@ fn put_in(
     requires at { reached_node (unlocked_system opening.old) (reverse front.now) ≡ Ok folder }
     requires kept { IsKept opening.old [] stands.old }
     requires fits { FitsNode node }
-    ensures made { OnOk result (opening.new ≡ after_change opening.old (Makes (found_node opening.old (reverse front.now)) name.now node)) }
+    ensures made { OnOk result (opening.new
+        ≡ after_change opening.old (Makes (found_node opening.old (reverse front.now)) name.now node)) }
     ensures same { OnErr result (opening.new ≡ opening.old) }
     ensures refusal { IsRefusedBy (put_refusal opening.old (name.now ∷ reverse front.now)) result }
     ensures kept { IsKept opening.new [] stands.new }

@@ -14,7 +14,8 @@ use tree_trait::{FileSystem, Mount, TreeError};
 
 /// The same file system with an empty folder more, whose path isn't the root.
 fn with_folder(alloc: Global, opening: &FileSystem, names: &[Name]) -> Result<FileSystem, NoMemory>
-    ensures { IfOk result (λ new. new ≡ after_change opening.now (of_name opening.now (reverse names.now) (λ f name. Makes f name (folder_node 0o755 0)))) }
+    ensures { IfOk result (λ new. new ≡ after_change opening.now
+        (of_name opening.now (reverse names.now) (λ f name. Makes f name (folder_node 0o755 0)))) }
 {
     let mut new = copy_of(alloc, opening)?;
     match names {

@@ -1,10 +1,13 @@
 //! Steps are carried out among the names that stand.
-ghost use Rattle.std.specs.Prelude.{pos, ◌≡◌, ◌∷◌, ◌++◌, take, drop, ◌<◌, ◌≤◌, ◌+◌, ◌-◌, Err, length, List, true, false, Ok, vec_len, vec_capacity, [], IfOk, IfErr, IsOk, OnOk, OnErr};
+ghost use Rattle.std.specs.Prelude.{pos, ◌≡◌, ◌∷◌, ◌++◌, take, drop, ◌<◌, ◌≤◌, ◌+◌};
+ghost use Rattle.std.specs.Prelude.{◌-◌, Err, length, List, true, false, Ok, vec_len};
+ghost use Rattle.std.specs.Prelude.{vec_capacity, [], IfOk, IfErr, IsOk, OnOk, OnErr};
 ghost use Rattle.tree_trait.specs.declared.file_system.FileSystem.{FileSystem};
 ghost use Rattle.tree_trait.specs.Change.{Makes, Writes, after_change};
 ghost use Rattle.mem_tree.specs.Records.{change_by};
 ghost use Rattle.mem_tree.specs.Live.{without_name, IsOnce, IsPlaceBehind};
-ghost use Rattle.mem_tree.specs.CallSteps.{step_change, torn_step, standing_after, IsPlaced, IsDone, takes_none, Concludes};
+ghost use Rattle.mem_tree.specs.CallSteps.{step_change, torn_step, standing_after};
+ghost use Rattle.mem_tree.specs.CallSteps.{IsPlaced, IsDone, takes_none, Concludes};
 
 use crate::copies::copy_node;
 use crate::record::Record;
@@ -68,7 +71,8 @@ fn place_behind(names: &[NameEdit], folder: usize, name: &Name) -> Option<usize>
 
 /// Takes a name out behind the first one. It takes no memory.
 fn take_behind(names: &mut Seq<NameEdit>, folder: usize, name: &Name)
-    ensures { IsOnce (drop 1 names.old) → names.new ≡ take 1 names.old ++ without_name folder name.now (drop 1 names.old) }
+    ensures { IsOnce (drop 1 names.old)
+        → names.new ≡ take 1 names.old ++ without_name folder name.now (drop 1 names.old) }
 {
     if let Some(k) = place_behind(names.as_slice(), folder, name) {
         let _ = names.remove(k);
@@ -87,8 +91,10 @@ fn change_name(
 ) -> Result<Record, NoMemory>
     requires placed { at < length stands.old.names }
     requires once { IsOnce stands.old.names }
-    ensures stands { OnOk result (stands.new ≡ standing_after stands.old (step_change stands.old (Step.Move at to name moved replaced))) }
-    ensures change { IfOk result (λ done. change_by done ≡ step_change stands.old (Step.Move at to name moved replaced)) }
+    ensures stands { OnOk result (stands.new
+        ≡ standing_after stands.old (step_change stands.old (Step.Move at to name moved replaced))) }
+    ensures change { IfOk result (λ done.
+        change_by done ≡ step_change stands.old (Step.Move at to name moved replaced)) }
     ensures same { OnErr result (stands.new ≡ stands.old) }
 {
     let edit = NameEdit {
@@ -225,11 +231,13 @@ fn record(
     requires room { vec_len records.old < vec_capacity records.old }
     requires placed { IsPlaced stands.old step }
     requires once { IsOnce stands.old.names }
-    ensures done { OnOk result (IsDone stands.old records.old.items (step_change stands.old step) stands.new records.new.items) }
+    ensures done { OnOk result
+        (IsDone stands.old records.old.items (step_change stands.old step) stands.new records.new.items) }
     ensures same { OnErr result (stands.new ≡ stands.old) }
     ensures same_records { OnErr result (records.new.items ≡ records.old.items) }
     ensures no_memory { takes_none (Ok step) ≡ true → IsOk result }
-    ensures spare { vec_capacity records.old - vec_len records.old ≤ (vec_capacity records.new - vec_len records.new) + 1 }
+    ensures spare { vec_capacity records.old - vec_len records.old
+        ≤ (vec_capacity records.new - vec_len records.new) + 1 }
 {
     match perform(alloc, stands, step) {
         Err(e) => Err(e),
@@ -251,9 +259,11 @@ fn carry_out(
     requires room { vec_len records.old < vec_capacity records.old }
     requires placed { IsPlaced stands.old step }
     requires once { IsOnce stands.old.names }
-    ensures concludes { Concludes stands.old records.old.items due (Ok step) result stands.new records.new.items }
+    ensures concludes { Concludes stands.old records.old.items due (Ok step) result stands.new
+        records.new.items }
     ensures no_memory { takes_none (Ok step) ≡ true → result ≡ Err TreeError.Memory → ⊥ }
-    ensures spare { vec_capacity records.old - vec_len records.old ≤ (vec_capacity records.new - vec_len records.new) + 1 }
+    ensures spare { vec_capacity records.old - vec_len records.old
+        ≤ (vec_capacity records.new - vec_len records.new) + 1 }
 {
     if due {
         let left = torn(alloc, step);
@@ -268,7 +278,8 @@ fn carry_out(
     }
 }
 
-/// Carries a plan out, unless the call is due to fail. Either way it is one record more, unless there is no memory.
+/// Carries a plan out, unless the call is due to fail. Either way it is one record more,
+/// unless there is no memory.
 pub fn conclude(
     alloc: Global,
     stands: &mut FileSystem,
@@ -280,8 +291,10 @@ pub fn conclude(
     requires no_fault { plan ≡ Err TreeError.Fault → ⊥ }
     requires once { IsOnce stands.old.names }
     ensures concludes { Concludes stands.old records.old.items due plan result stands.new records.new.items }
-    ensures no_memory { vec_len records.old < vec_capacity records.old → takes_none plan ≡ true → result ≡ Err TreeError.Memory → ⊥ }
-    ensures spare { vec_capacity records.old - vec_len records.old ≤ (vec_capacity records.new - vec_len records.new) + 1 }
+    ensures no_memory { vec_len records.old < vec_capacity records.old → takes_none plan ≡ true
+        → result ≡ Err TreeError.Memory → ⊥ }
+    ensures spare { vec_capacity records.old - vec_len records.old
+        ≤ (vec_capacity records.new - vec_len records.new) + 1 }
 {
     if make_room(records).is_err() {
         return Err(TreeError::Memory);

@@ -1,10 +1,13 @@
 //! What the changing calls are to do.
-ghost use Rattle.std.specs.Prelude.{◌≡◌, ◌∷◌, ◌+◌, ◌^◌, ◌≤◌, Some, None, Ok, true, length, reverse, IfOk, pos};
+ghost use Rattle.std.specs.Prelude.{◌≡◌, ◌∷◌, ◌+◌, ◌^◌, ◌≤◌, Some, None};
+ghost use Rattle.std.specs.Prelude.{Ok, true, length, reverse, IfOk, pos};
 ghost use Rattle.mc_text.specs.declared.kind.Kind.TheVariants.{File, Folder, Link};
 ghost use Rattle.tree_trait.specs.FileSystem.{find, node};
-ghost use Rattle.tree_trait.specs.Calls.{MakeFile, WriteAt, SetMode, MakeFolder, MakeLink, Rename, RemoveFile, RemoveFolder, SyncFile, SyncFolder};
+ghost use Rattle.tree_trait.specs.Calls.{MakeFile, WriteAt, SetMode, MakeFolder, MakeLink};
+ghost use Rattle.tree_trait.specs.Calls.{Rename, RemoveFile, RemoveFolder, SyncFile, SyncFolder};
 ghost use Rattle.tree_trait.specs.Refusals.{refusal_of};
-ghost use Rattle.tree_trait.specs.Change.{Nothing, Makes, Moves, Removes, of_name, found_node, overwritten_bytes};
+ghost use Rattle.tree_trait.specs.Change.{Nothing, Makes, Moves, Removes};
+ghost use Rattle.tree_trait.specs.Change.{of_name, found_node, overwritten_bytes};
 ghost use Rattle.mem_tree.specs.CallSteps.{Plans, PlansTo, IsReady, takes_none};
 
 use crate::links::link_node;
@@ -20,7 +23,8 @@ use tree_trait::{FileSystem, Node, Seq, TreeError};
 
 /// The step that makes a node at a path.
 fn make_step(alloc: Global, fs: &FileSystem, names: &[Name], made: Node) -> Result<Step, NoMemory>
-    ensures { IfOk result (IsReady fs.now (of_name fs.now (reverse names.now) (λ f name. Makes f name made)) Nothing) }
+    ensures { IfOk result
+        (IsReady fs.now (of_name fs.now (reverse names.now) (λ f name. Makes f name made)) Nothing) }
 {
     match names {
         [] => Ok(Step::Stay),
@@ -168,9 +172,11 @@ pub fn plan_set_mode(
 
 /// The step that ends a name in the folder of a path.
 fn unlink_in(fs: &FileSystem, front: &[Name], name: &Name) -> Step
-    requires { find fs.now (name.now ∷ reverse front.now) ≡ Some (found_node fs.now (name.now ∷ reverse front.now)) }
+    requires { find fs.now (name.now ∷ reverse front.now)
+        ≡ Some (found_node fs.now (name.now ∷ reverse front.now)) }
     ensures no_memory { takes_none (Ok result) ≡ true }
-    ensures ready { IsReady fs.now (Removes (found_node fs.now (reverse front.now)) name.now (found_node fs.now (name.now ∷ reverse front.now))) Nothing result }
+    ensures ready { IsReady fs.now (Removes (found_node fs.now (reverse front.now)) name.now
+        (found_node fs.now (name.now ∷ reverse front.now))) Nothing result }
 {
     match place_of(fs.names.as_slice(), found(fs, front), name) {
         None => Step::Stay,
@@ -185,7 +191,8 @@ fn unlink_in(fs: &FileSystem, front: &[Name], name: &Name) -> Step
 fn unlink_step(fs: &FileSystem, names: &[Name]) -> Step
     requires { find fs.now (reverse names.now) ≡ Some (found_node fs.now (reverse names.now)) }
     ensures no_memory { takes_none (Ok result) ≡ true }
-    ensures ready { IsReady fs.now (of_name fs.now (reverse names.now) (λ f name. Removes f name (found_node fs.now (reverse names.now)))) Nothing result }
+    ensures ready { IsReady fs.now (of_name fs.now (reverse names.now)
+        (λ f name. Removes f name (found_node fs.now (reverse names.now)))) Nothing result }
 {
     match names {
         [] => Step::Stay,
@@ -227,7 +234,8 @@ fn move_in(
     new: &Name,
 ) -> Result<Step, NoMemory>
     requires { find fs.now (old.now ∷ reverse up.now) ≡ Some (found_node fs.now (old.now ∷ reverse up.now)) }
-    ensures { IfOk result (IsReady fs.now (Moves (found_node fs.now (reverse up.now)) old.now (found_node fs.now (reverse over.now)) new.now
+    ensures { IfOk result (IsReady fs.now
+        (Moves (found_node fs.now (reverse up.now)) old.now (found_node fs.now (reverse over.now)) new.now
         (found_node fs.now (old.now ∷ reverse up.now)) (find fs.now (new.now ∷ reverse over.now))) Nothing) }
 {
     match place_of(fs.names.as_slice(), found(fs, up), old) {
@@ -245,7 +253,8 @@ fn move_in(
 /// The step that moves the name of a path to that of another.
 fn move_step(alloc: Global, fs: &FileSystem, from: &[Name], to: &[Name]) -> Result<Step, NoMemory>
     requires { find fs.now (reverse from.now) ≡ Some (found_node fs.now (reverse from.now)) }
-    ensures { IfOk result (IsReady fs.now (of_name fs.now (reverse from.now) (λ f old. of_name fs.now (reverse to.now) (λ g new.
+    ensures { IfOk result
+        (IsReady fs.now (of_name fs.now (reverse from.now) (λ f old. of_name fs.now (reverse to.now) (λ g new.
         Moves f old g new (found_node fs.now (reverse from.now)) (find fs.now (reverse to.now))))) Nothing) }
 {
     match from {

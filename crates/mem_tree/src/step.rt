@@ -2,7 +2,8 @@
 use mc_text::Name;
 use tree_trait::{Node, Seq};
 
-/// What a call that isn't refused is to do. `at` is the place, among the names that stand, of the name that ends.
+/// What a call that isn't refused is to do. `at` is the place, among the names that
+/// stand, of the name that ends.
 #[derive(Drop)]
 pub enum Step {
     Stay,

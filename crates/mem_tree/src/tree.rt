@@ -1,10 +1,12 @@
-//! A tree in memory. It keeps its opening, a record of each changing call since, and the names that stand now.
+//! A tree in memory. It keeps its opening, a record of each changing call since, and
+//! the names that stand now.
 ghost use Rattle.std.specs.Prelude.{◌≡◌, ◌<◌, ◌≤◌, ◌^◌, length, [], IfOk, OnOk, OnErr};
 ghost use Rattle.tree_trait.specs.Change.{current};
 ghost use Rattle.tree_trait.specs.CrashImages.{IsCrashImage};
 ghost use Rattle.tree_trait.specs.Shape.{IsTree};
 ghost use Rattle.tree_trait.specs.Answers.{IsLinkText};
-ghost use Rattle.mem_tree.specs.Held.{IsKept, fresh, unused_tree, image_chosen, made_in, folder_node, file_node, link_node, other_node};
+ghost use Rattle.mem_tree.specs.Held.{IsKept, fresh, unused_tree, image_chosen, made_in};
+ghost use Rattle.mem_tree.specs.Held.{folder_node, file_node, link_node, other_node};
 ghost use Rattle.mem_tree.specs.Puts.{mounted_system, put_refusal, put_file_refusal, IsRefusedBy};
 
 use crate::choice::Choice;
@@ -40,7 +42,14 @@ impl Model for MemTree {
 
     ghost Value = { Held };
 
-    ghost view = { λ m. record { log = log_of m.opening m.records.items; time = m.time; fails = m.fails.items; called = m.called; faults = m.faults; spare = vec_capacity m.records - vec_len m.records } };
+    ghost view = { λ m. record {
+      log = log_of m.opening m.records.items;
+      time = m.time;
+      fails = m.fails.items;
+      called = m.called;
+      faults = m.faults;
+      spare = vec_capacity m.records - vec_len m.records;
+    } };
 
     ghost invariant = { λ m. IsKept m.opening m.records.items m.stands };
 }
@@ -71,12 +80,14 @@ impl MemTree {
         Ok(unused(alloc, opening, stands, now))
     }
 
-    /// Makes a folder of mode 0o755 where a mount begins whose files may have so many bytes, and gives the mount's number.
-    /// It copies the opening.
+    /// Makes a folder of mode 0o755 where a mount begins whose files may have so many bytes, and gives the
+    /// mount's number. It copies the opening.
     pub fn mount(&mut self, alloc: Global, at: &Path, capacity: u64) -> Result<u32, TreeError>
         requires unused { self.old.log.changes ≡ [] }
         requires few { length self.old.log.opening.mounts < 1000 }
-        ensures made { OnOk result (self.new ≡ record self.old { log = record { opening = mounted_system self.old.log.opening at.now capacity; changes = [] } }) }
+        ensures made { OnOk result (self.new ≡ record self.old {
+          log = record { opening = mounted_system self.old.log.opening at.now capacity; changes = [] };
+        }) }
         ensures number { IfOk result (λ number. number ≡ length self.old.log.opening.mounts) }
         ensures same { OnErr result (self.new ≡ self.old) }
         ensures refusal { IsRefusedBy (put_refusal self.old.log.opening at.now) result }
@@ -102,7 +113,8 @@ impl MemTree {
     ) -> Result<(), TreeError>
         requires unused { self.old.log.changes ≡ [] }
         requires mode { mode ≤ 0o7777 }
-        ensures made { OnOk result (self.new ≡ record self.old { log = made_in self.old.log path.now (folder_node mode unnamed) }) }
+        ensures made { OnOk result
+            (self.new ≡ record self.old { log = made_in self.old.log path.now (folder_node mode unnamed) }) }
         ensures same { OnErr result (self.new ≡ self.old) }
         ensures refusal { IsRefusedBy (put_refusal self.old.log.opening path.now) result }
         ensures unused { self.new.log.changes ≡ [] }
@@ -129,9 +141,11 @@ impl MemTree {
         requires unused { self.old.log.changes ≡ [] }
         requires mode { mode ≤ 0o7777 }
         requires size { length bytes.now ≤ 2 ^ 63 }
-        ensures made { OnOk result (self.new ≡ record self.old { log = made_in self.old.log path.now (file_node mode mtime bytes.now) }) }
+        ensures made { OnOk result (self.new
+            ≡ record self.old { log = made_in self.old.log path.now (file_node mode mtime bytes.now) }) }
         ensures same { OnErr result (self.new ≡ self.old) }
-        ensures refusal { IsRefusedBy (put_file_refusal self.old.log.opening path.now (length bytes.now)) result }
+        ensures refusal { IsRefusedBy
+            (put_file_refusal self.old.log.opening path.now (length bytes.now)) result }
         ensures unused { self.new.log.changes ≡ [] }
     {
         if is_full_for(&self.opening, path.names(), bytes.len()) {
@@ -153,7 +167,8 @@ impl MemTree {
     pub fn put_link(&mut self, alloc: Global, path: &Path, text: &str) -> Result<(), TreeError>
         requires unused { self.old.log.changes ≡ [] }
         requires link_text { IsLinkText text.now }
-        ensures made { OnOk result (self.new ≡ record self.old { log = made_in self.old.log path.now (link_node text.now) }) }
+        ensures made { OnOk result
+            (self.new ≡ record self.old { log = made_in self.old.log path.now (link_node text.now) }) }
         ensures same { OnErr result (self.new ≡ self.old) }
         ensures refusal { IsRefusedBy (put_refusal self.old.log.opening path.now) result }
         ensures unused { self.new.log.changes ≡ [] }
@@ -173,7 +188,8 @@ impl MemTree {
     /// Makes a thing that is on the disk and neither file, folder nor link.
     pub fn put_other(&mut self, alloc: Global, path: &Path) -> Result<(), TreeError>
         requires unused { self.old.log.changes ≡ [] }
-        ensures made { OnOk result (self.new ≡ record self.old { log = made_in self.old.log path.now other_node }) }
+        ensures made { OnOk result
+            (self.new ≡ record self.old { log = made_in self.old.log path.now other_node }) }
         ensures same { OnErr result (self.new ≡ self.old) }
         ensures refusal { IsRefusedBy (put_refusal self.old.log.opening path.now) result }
         ensures unused { self.new.log.changes ≡ [] }
@@ -220,12 +236,13 @@ impl MemTree {
         self.records.len() as u64
     }
 
-    /// What a crash after so many changing calls may leave, as a tree that was not called yet: of the changes of names and
-    /// modes that are unsynced then those stand that the choice keeps, and its fill says what the files with unsynced
-    /// writes hold.
+    /// What a crash after so many changing calls may leave, as a tree that was not called yet: of the
+    /// changes of names and modes that are unsynced then those stand that the choice keeps, and its fill
+    /// says what the files with unsynced writes hold.
     pub fn image(&self, alloc: Global, at_call: u64, choice: &Choice) -> Result<MemTree, NoMemory>
         requires { at_call ≤ length self.now.log.changes }
-        ensures chosen { IfOk result (λ tree. tree ≡ unused_tree (image_chosen self.now.log at_call choice.now) self.now.time) }
+        ensures chosen { IfOk result (λ tree.
+            tree ≡ unused_tree (image_chosen self.now.log at_call choice.now) self.now.time) }
         ensures member { IfOk result (λ tree. IsCrashImage self.now.log at_call tree.log.opening) }
     {
         let records = &self.records[..at_call as usize];

@@ -1,5 +1,5 @@
--- The setting of a mode as the work of a job: what a last step may report, and what that says of the tree's calls. Its steps are said in
--- mode_job.
+-- The setting of a mode as the work of a job: what a last step may report, and what that says of the tree's
+-- calls. Its steps are said in mode_job.
 use Rattle.std.specs.Prelude.{◌≡◌, false, Option, Some, None}
 use Rattle.tree_trait.specs.declared.calls.TreeError.{TreeError}
 use Rattle.tree_trait.specs.Change.{CallLog}
@@ -29,7 +29,8 @@ LastSettingCalls s Barrier log after = (left : Option TreeError) × TellsTried s
 LastSettingCalls s (Ended ending part) log after = after ≡ Some log
 LastSettingCalls s did log after = ⊥
 
--- what a last step tells of the thing: the refusal of its sync, or of the look before it, if that was tried in vain
+-- what a last step tells of the thing: the refusal of its sync, or of the look before it,
+-- if that was tried in vain
 abbrev pub SettingLeaves : Setting → Did → Option TreeError → CallLog → Option CallLog → Type 0
 SettingLeaves s Barrier left log after = TellsTried s.path left log after
 SettingLeaves s did left log after = left ≡ None

@@ -1,4 +1,5 @@
--- The order in which a mode is set: it is given, the thing itself is synced, and only then is the setting finished.
+-- The order in which a mode is set: it is given, the thing itself is synced, and only then
+-- is the setting finished.
 use Rattle.std.specs.Prelude.{◌≡◌, ◌⊎◌, ℕ, Bool, true, false, None}
 use Rattle.mc_text.specs.Routes.{Route}
 use Rattle.job_reports.specs.declared.report.Cause.TheVariants.{Memory}
@@ -43,12 +44,15 @@ skipped_stage Give = Done
 skipped_stage Sync = Sync
 skipped_stage Done = Done
 
--- What a step may report, and where the setting stands then. A trouble is told of whose kind none is to be passed over, or there was no memory.
+-- What a step may report, and where the setting stands then. A trouble is told of whose kind none is to be
+-- passed over, or there was no memory.
 abbrev pub Tells : Replies → Setting → Did → Setting → Type 0
 Tells replies s (Set path) new = (s.stage ≡ Give) × (path ≡ s.path) × (new ≡ record s { stage = Sync })
 Tells replies s Barrier new = (s.stage ≡ Sync) × (new ≡ record s { stage = Done })
-Tells replies s (Skipped path cause) new = (s.stage ≡ Give) × (path ≡ s.path) × (holds replies.skips (kind_in cause) ≡ true) × (new ≡ record s { stage = Done })
+Tells replies s (Skipped path cause) new = (s.stage ≡ Give) × (path ≡ s.path)
+    × (holds replies.skips (kind_in cause) ≡ true) × (new ≡ record s { stage = Done })
 Tells replies s (Troubled trouble) new =
-    (trouble.barrier ≡ at_barrier s.stage) × ((is_passed_over replies.skips trouble ≡ false) ⊎ (trouble.cause ≡ Memory)) × (new ≡ s)
+    (trouble.barrier ≡ at_barrier s.stage)
+    × ((is_passed_over replies.skips trouble ≡ false) ⊎ (trouble.cause ≡ Memory)) × (new ≡ s)
 Tells replies s (Ended Finished part) new = (s.stage ≡ Done) × (part ≡ None) × (new ≡ s)
 Tells replies s did new = ⊥

@@ -1,5 +1,5 @@
-//! The setting of a mode, with what is dirty: the thing itself joins that before it is given its mode, when there may still be no memory,
-//! and leaves it with its sync.
+//! The setting of a mode, with what is dirty: the thing itself joins that before it is given its mode, when
+//! there may still be no memory, and leaves it with its sync.
 ghost use Rattle.std.specs.Prelude.{◌≡◌};
 ghost use Rattle.job_unsynced.specs.Folders.{after_try, with_change};
 ghost use Rattle.mode_job.specs.Settings.{is_dirty};
@@ -22,7 +22,8 @@ pub fn step_setting<T: Tree>(
 ) -> StepResult
     ensures steps { StepsOn replies setting.old setting.new result.did result.calls (T.contents tree.old)
         (T.contents tree.new) (T.fault_count tree.old) (T.fault_count tree.new) }
-    ensures leaves { dirty.new ≡ with_change (is_dirty setting.old.stage) (is_dirty setting.new.stage) setting.old.path dirty.old }
+    ensures leaves { dirty.new
+        ≡ with_change (is_dirty setting.old.stage) (is_dirty setting.new.stage) setting.old.path dirty.old }
 {
     let Ok(readied) = dirty.ready(
         alloc,

@@ -2,7 +2,8 @@
 ghost use Rattle.std.specs.Prelude.{◌≡◌, ◌≤◌, Some};
 ghost use Rattle.mc_text.specs.Routes.{parent_of};
 ghost use Rattle.job_reports.specs.Paths.{folder_of};
-ghost use Rattle.mode_job.specs.Settings.{at_barrier, is_dirty, is_fresh, setting, skipped_stage as skipped_to};
+ghost use Rattle.mode_job.specs.Settings.{at_barrier, is_dirty, is_fresh};
+ghost use Rattle.mode_job.specs.Settings.{setting, skipped_stage as skipped_to};
 ghost use Rattle.mode_job.specs.SettingSteps.{SettingSkips, StepsOn, Winds};
 
 use crate::work::{try_sync, work};
@@ -18,13 +19,15 @@ use tree_trait::Tree;
 pub enum Stage {
     /// The mode is to be given.
     Give,
-    /// It was given. The thing itself is synced before the end, so that no crash brings the old mode back after the end.
+    /// It was given. The thing itself is synced before the end, so that no crash brings the old
+    /// mode back after the end.
     Sync,
     /// Nothing is left to be done.
     Done,
 }
 
-/// The setting of the mode of the thing at `path`, a file or a folder. What lies in it keeps its mode, and no link is followed.
+/// The setting of the mode of the thing at `path`, a file or a folder. What lies in it keeps its mode,
+/// and no link is followed.
 #[derive(Debug, Drop)]
 pub struct ModeSetting {
     path: Path,
@@ -60,8 +63,8 @@ impl ModeSetting {
         }
     }
 
-    /// Does the next piece of work, which is at most one changing call of the tree. What is refused is tried again by the next step,
-    /// but where troubles of its kind are passed over, by what was answered.
+    /// Does the next piece of work, which is at most one changing call of the tree. What is refused is
+    /// tried again by the next step, but where troubles of its kind are passed over, by what was answered.
     pub fn step<T: Tree>(&mut self, alloc: Global, tree: &mut T, replies: Replies) -> StepResult
         ensures { StepsOn replies self.old self.new result.did result.calls
             (T.contents tree.old) (T.contents tree.new) (T.fault_count tree.old) (T.fault_count tree.new) }

@@ -48,7 +48,8 @@ pub(crate) fn work<T: Tree>(
 
 fn give<T: Tree>(alloc: Global, tree: &mut T, path: &Path, mode: u16, replies: Replies) -> AfterStep
     requires { mode ≤ 0o7777 }
-    ensures { MovesOn replies (setting path.now mode Stage.Give) result (T.contents tree.old) (T.contents tree.new)
+    ensures { MovesOn replies (setting path.now mode Stage.Give) result (T.contents tree.old)
+        (T.contents tree.new)
         (T.fault_count tree.old) (T.fault_count tree.new) }
 {
     let Ok(set) = path.copy(alloc) else {
@@ -64,7 +65,8 @@ fn give<T: Tree>(alloc: Global, tree: &mut T, path: &Path, mode: u16, replies: R
     }
 }
 
-/// The mode wasn't given: that is told, or the thing keeps its mode, where troubles of that kind are passed over. Want of memory is always told.
+/// The mode wasn't given: that is told, or the thing keeps its mode, where troubles of that kind are passed
+/// over. Want of memory is always told.
 fn not_given(stop: Stop, path: Path, mode: u16, replies: Replies) -> AfterStep
     ensures { NotGiven replies (setting path mode Stage.Give) stop result }
 {
@@ -83,7 +85,8 @@ fn not_given(stop: Stop, path: Path, mode: u16, replies: Replies) -> AfterStep
 }
 
 fn sync<T: Tree>(alloc: Global, tree: &mut T, path: &Path, mode: u16, replies: Replies) -> AfterStep
-    ensures { MovesOn replies (setting path.now mode Stage.Sync) result (T.contents tree.old) (T.contents tree.new)
+    ensures { MovesOn replies (setting path.now mode Stage.Sync) result (T.contents tree.old)
+        (T.contents tree.new)
         (T.fault_count tree.old) (T.fault_count tree.new) }
 {
     let _mode = mode;
@@ -122,7 +125,8 @@ fn troubled(stop: Stop, stage: Stage) -> AfterStep
     }
 }
 
-/// The one try of a job that is to end: a look at what the thing is, and its sync. It takes no memory of its own.
+/// The one try of a job that is to end: a look at what the thing is, and its sync. It
+/// takes no memory of its own.
 pub(crate) fn try_sync<T: Tree>(alloc: Global, tree: &mut T, path: &Path) -> LastStepResult
     ensures { SyncTried path.now result (T.contents tree.old) (T.contents tree.new)
         (T.fault_count tree.old) (T.fault_count tree.new) }
@@ -138,7 +142,8 @@ pub(crate) fn try_sync<T: Tree>(alloc: Global, tree: &mut T, path: &Path) -> Las
 }
 
 fn try_kind<T: Tree>(alloc: Global, tree: &mut T, path: &Path, kind: Kind) -> Result<(), TreeError>
-    ensures answer { IfKnown (T.contents tree.old) (λ log. Performs log (sync_by kind path.now) result (T.contents tree.new)) }
+    ensures answer { IfKnown (T.contents tree.old) (λ log.
+        Performs log (sync_by kind path.now) result (T.contents tree.new)) }
     ensures stays_unknown { T.contents tree.old ≡ None → T.contents tree.new ≡ None }
     ensures cause { HasCause TreeError.Fault (T.fault_count tree.old) (T.fault_count tree.new) result }
 {

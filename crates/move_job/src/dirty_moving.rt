@@ -1,5 +1,5 @@
-//! The move of a thing, with the dirty folders: the one to which it goes and the one in which it was join them before it is renamed, when
-//! there may still be no memory, and each leaves them with its sync.
+//! The move of a thing, with the dirty folders: the one to which it goes and the one in which it was join
+//! them before it is renamed, when there may still be no memory, and each leaves them with its sync.
 ghost use Rattle.std.specs.Prelude.{◌≡◌, false, true, if◌then◌else◌};
 ghost use Rattle.job_reports.specs.Paths.{folder_of};
 ghost use Rattle.move_job.specs.Movings.{is_fresh, owed_folder, with_moves};
@@ -90,7 +90,8 @@ pub fn wind_up_moving<T: Tree>(
     ending: Ending,
     dirty: &mut Dirty,
 ) -> LastStepResult
-    ensures winds { LastMovingStep ending moving.old moving.new result.did result.calls result.left (T.contents tree.old)
+    ensures winds { LastMovingStep ending moving.old moving.new result.did result.calls result.left
+        (T.contents tree.old)
         (T.contents tree.new) (T.fault_count tree.old) (T.fault_count tree.new) }
     ensures tries { dirty.new ≡ after_try result.did result.left (owed_folder moving.old) dirty.old }
 {
@@ -102,7 +103,8 @@ pub fn wind_up_moving<T: Tree>(
 
 /// Notes that a last step tried the one of the two folders, if it tried any.
 fn note(moving: &ThingMoving, owed_target: bool, stepped: &LastStepResult, dirty: &mut Dirty)
-    ensures { dirty.new ≡ after_try stepped.now.did stepped.now.left (if owed_target then folder_of moving.now.pair.target else folder_of moving.now.pair.source) dirty.old }
+    ensures { dirty.new ≡ after_try stepped.now.did stepped.now.left (if owed_target
+        then folder_of moving.now.pair.target else folder_of moving.now.pair.source) dirty.old }
 {
     if owed_target {
         return dirty.note_try(&stepped.did, stepped.left, moving.folder());

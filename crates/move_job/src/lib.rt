@@ -1,4 +1,5 @@
-//! The move of a thing, of a folder with all that lies in it, to another path on its mount, step by step, with the list of dirty folders.
+//! The move of a thing, of a folder with all that lies in it, to another path on its mount, step by step,
+//! with the list of dirty folders.
 #![tactic(auto)]
 
 mod dirty_moving;

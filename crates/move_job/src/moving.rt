@@ -1,6 +1,7 @@
-//! The move of one thing, of a folder with all that lies in it, a call of the tree at each step: it is looked at and renamed, the folder of its
-//! target is synced, then the one in which it was, and only then is it finished, so that a thing whose move is finished is on the disk where it
-//! went. A folder that comes onto a folder is not renamed: what lies in it is told, to be moved by others, and nothing is changed.
+//! The move of one thing, of a folder with all that lies in it, a call of the tree at each step: it is
+//! looked at and renamed, the folder of its target is synced, then the one in which it was, and only then
+//! is it finished, so that a thing whose move is finished is on the disk where it went. A folder that comes
+//! onto a folder is not renamed: what lies in it is told, to be moved by others, and nothing is changed.
 ghost use Rattle.std.specs.Prelude.{◌≡◌, false, true, Some, Err};
 ghost use Rattle.mc_text.specs.Routes.{parent_of, same_path};
 ghost use Rattle.tree_trait.specs.Change.{current};
@@ -8,8 +9,10 @@ ghost use Rattle.tree_trait.specs.Answers.{IfKnown, IsAscending};
 ghost use Rattle.job_reports.specs.Paths.{folder_of};
 ghost use Rattle.job_reports.specs.Stops.{calls_made_for};
 ghost use Rattle.copy_tree.specs.Taking.{AreShort};
-ghost use Rattle.move_job.specs.Movings.{after_sync as synced_to, at_barrier, is_dirty, is_fresh, owed_folder, owes_target, begun_move};
-ghost use Rattle.move_job.specs.MovingSteps.{IsMergedOr, Keeps, LastMovingStep, MovingSkips, MovingStep, NotRenamed, NotTaken, PassesOver};
+ghost use Rattle.move_job.specs.Movings.{after_sync as synced_to, at_barrier, is_dirty};
+ghost use Rattle.move_job.specs.Movings.{is_fresh, owed_folder, owes_target, begun_move};
+ghost use Rattle.move_job.specs.MovingSteps.{IsMergedOr, Keeps, LastMovingStep, MovingSkips};
+ghost use Rattle.move_job.specs.MovingSteps.{MovingStep, NotRenamed, NotTaken, PassesOver};
 ghost use Rattle.move_job.specs.Takings.{MayMove};
 
 use crate::stages::{after_target, skipped};
@@ -29,14 +32,15 @@ use tree_trait::{Tree, TreeError};
 pub enum MovingStage {
     /// The thing is to be looked at, and renamed.
     Take,
-    /// It was renamed. The target's folder is synced first: where a disk had written one of the two folders alone, the thing would then
-    /// stand in both, and never in none.
+    /// It was renamed. The target's folder is synced first: where a disk had written one of the two folders
+    /// alone, the thing would then stand in both, and never in none.
     SyncTarget,
     /// Then the folder in which it was.
     SyncSource,
     /// The thing stands at its target for good. Nothing is left to be done.
     Finish,
-    /// The thing stays where it is, or is a folder that is merged with one, and what lies in it is moved by others. Nothing is left to be done.
+    /// The thing stays where it is, or is a folder that is merged with one, and what lies in it is moved by
+    /// others. Nothing is left to be done.
     PassedOver,
 }
 
@@ -58,7 +62,8 @@ impl Model for ThingMoving {
 
     ghost view = { λ m. record { pair = m.pair; stage = m.stage } };
 
-    ghost invariant = { λ m. (parent_of m.pair.source ≡ Some m.source_folder) × (parent_of m.pair.target ≡ Some m.folder)
+    ghost invariant = { λ m. (parent_of m.pair.source ≡ Some m.source_folder)
+        × (parent_of m.pair.target ≡ Some m.folder)
         × (same_path m.pair.source m.pair.target ≡ false) };
 }
 
@@ -78,8 +83,8 @@ impl ThingMoving {
         }
     }
 
-    /// Does the next piece of work, which is at most one changing call of the tree, where this was answered to the job's questions and
-    /// troubles. What is asked is asked again, until an answer stands.
+    /// Does the next piece of work, which is at most one changing call of the tree, where this was answered
+    /// to the job's questions and troubles. What is asked is asked again, until an answer stands.
     pub fn step<T: Tree>(&mut self, alloc: Global, tree: &mut T, replies: Replies) -> StepResult
         ensures { MovingStep replies self.old self.new result.did result.calls (T.contents tree.old)
             (T.contents tree.new) (T.fault_count tree.old) (T.fault_count tree.new) }
@@ -110,7 +115,8 @@ impl ThingMoving {
         tree: &mut T,
         ending: Ending,
     ) -> LastStepResult
-        ensures { LastMovingStep ending self.old self.new result.did result.calls result.left (T.contents tree.old)
+        ensures { LastMovingStep ending self.old self.new result.did result.calls result.left
+            (T.contents tree.old)
             (T.contents tree.new) (T.fault_count tree.old) (T.fault_count tree.new) }
     {
         match self.stage {
@@ -206,7 +212,8 @@ impl ThingMoving {
         }
     }
 
-    /// Renames the thing. The paths of the report come first: after the call it is too late to find no memory.
+    /// Renames the thing. The paths of the report come first: after the call it is
+    /// too late to find no memory.
     fn rename<T: Tree>(&mut self, alloc: Global, tree: &mut T, replies: Replies) -> StepResult
         requires stage { self.old.stage ≡ MovingStage.Take }
         requires may { IfKnown (T.contents tree.old) (λ log. MayMove (current log) self.old.pair replies) }
@@ -257,8 +264,8 @@ impl ThingMoving {
         without_call(Did::Kept(target))
     }
 
-    /// The two folders are merged: what lies in the source, by these names, are sources of their own, so the move is done with it. The paths of
-    /// the report come first, as those of a renaming do.
+    /// The two folders are merged: what lies in the source, by these names, are sources of their own, so
+    /// the move is done with it. The paths of the report come first, as those of a renaming do.
     fn merge(&mut self, alloc: Global, names: Names) -> StepResult
         requires told { AreShort self.old.pair names × IsAscending names }
         ensures did { IsMergedOr self.old names result.did self.new }
@@ -338,7 +345,8 @@ impl ThingMoving {
     /// The one try of a job that is to end.
     fn try_sync<T: Tree>(&mut self, alloc: Global, tree: &mut T, ending: Ending) -> LastStepResult
         requires stage { is_dirty self.old.stage ≡ true }
-        ensures { LastMovingStep ending self.old self.new result.did result.calls result.left (T.contents tree.old)
+        ensures { LastMovingStep ending self.old self.new result.did result.calls result.left
+            (T.contents tree.old)
             (T.contents tree.new) (T.fault_count tree.old) (T.fault_count tree.new) }
     {
         let _ending = ending;

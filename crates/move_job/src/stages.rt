@@ -8,7 +8,8 @@ use mc_text::Path;
 
 /// Where a move stands once this folder, its target's, was synced.
 pub(crate) fn after_target(folder: &Path, source_folder: &Path) -> MovingStage
-    ensures { result ≡ if same_path folder.now source_folder.now then MovingStage.Finish else MovingStage.SyncSource }
+    ensures { result ≡ if same_path folder.now source_folder.now then MovingStage.Finish
+        else MovingStage.SyncSource }
 {
     if folder.same(source_folder) {
         return MovingStage::Finish;

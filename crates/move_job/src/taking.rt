@@ -1,4 +1,5 @@
-//! What comes of a thing that is to be moved: the looks at it and at its target, and what the answers that stand decide.
+//! What comes of a thing that is to be moved: the looks at it and at its target, and what the
+//! answers that stand decide.
 ghost use Rattle.std.specs.Prelude.{◌≡◌, IfOk, MatchResult, Some};
 ghost use Rattle.tree_trait.specs.Change.{current};
 ghost use Rattle.tree_trait.specs.Answers.{IfKnown, IsAscending};
@@ -20,13 +21,15 @@ use tree_trait::{Meta, Tree, TreeError};
 /// What comes of a thing that is to be moved.
 #[derive(Debug, Drop)]
 pub(crate) enum Taking {
-    /// It is renamed, a folder with all that lies in it: nothing stands at its target, or it is no folder, and what stands there is replaced.
+    /// It is renamed, a folder with all that lies in it: nothing stands at its target, or it is no folder,
+    /// and what stands there is replaced.
     Moves,
     /// What stands at its target stays, and so does the thing.
     Keeps,
     /// It is to be asked whether that is replaced.
     Asks(Question),
-    /// A folder comes onto a folder: what lies in it, by these names, is moved, each thing by a move of its own.
+    /// A folder comes onto a folder: what lies in it, by these names, is moved, each
+    /// thing by a move of its own.
     Merges(Names),
 }
 
@@ -64,7 +67,8 @@ fn onto<T: Tree>(
     source: Meta,
     target: Meta,
 ) -> Result<Taking, Trouble>
-    requires stand { IfKnown (T.contents tree.old) (λ log. Stands (current log) pair.now.source source × Stands (current log) pair.now.target target) }
+    requires stand { IfKnown (T.contents tree.old) (λ log. Stands (current log) pair.now.source source
+        × Stands (current log) pair.now.target target) }
     ensures known { IfKnown (T.contents tree.old) (λ log. MatchResult result
         (λ taking. Takes (current log) pair.now replies taking)
         (λ trouble. LooksStop (current log) pair.now trouble.cause trouble.path)) }
@@ -88,7 +92,8 @@ fn onto<T: Tree>(
     }
 }
 
-/// The names in a folder that comes onto a folder, by which what lies in it is moved. The two lie on one mount, since nothing can be renamed to another.
+/// The names in a folder that comes onto a folder, by which what lies in it is moved. The two lie on one
+/// mount, since nothing can be renamed to another.
 fn names_to_move<T: Tree>(
     alloc: Global,
     tree: &mut T,
@@ -96,7 +101,8 @@ fn names_to_move<T: Tree>(
     source: Meta,
     target: Meta,
 ) -> Result<Names, Trouble>
-    requires stand { IfKnown (T.contents tree.old) (λ log. Stands (current log) pair.now.source source × Stands (current log) pair.now.target target) }
+    requires stand { IfKnown (T.contents tree.old) (λ log. Stands (current log) pair.now.source source
+        × Stands (current log) pair.now.target target) }
     requires meets { placing_at (Moved source.kind) (Some target.kind) ≡ Merges }
     ensures known { IfKnown (T.contents tree.old) (λ log. MatchResult result (IsMerged (current log) pair.now)
         (λ trouble. LooksStop (current log) pair.now trouble.cause trouble.path)) }

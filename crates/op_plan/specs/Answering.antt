@@ -1,5 +1,6 @@
 -- What an answer may be besides that of the definition, and checks that follow one another.
-use Rattle.std.specs.Prelude.{◌≡◌, ◌≢◌, ⊤, ℕ, ◌≤◌, Bool, true, false, ◌||◌, List, Option, Some, None, Result, Ok, Err, IfErr}
+use Rattle.std.specs.Prelude.{◌≡◌, ◌≢◌, ⊤, ℕ, ◌≤◌, Bool, true, false, ◌||◌}
+use Rattle.std.specs.Prelude.{List, Option, Some, None, Result, Ok, Err, IfErr}
 use Rattle.tree_trait.specs.declared.calls.TreeError.{TreeError}
 use Rattle.tree_trait.specs.declared.calls.TreeError.TheVariants as tree
 use Rattle.tree_trait.specs.Answers.{HasRisen}
@@ -9,7 +10,9 @@ use Rattle.resolving.specs.Errors.{CarriesCause}
 use Rattle.mc_text.specs.Routes.{Route}
 use Rattle.op_plan.specs.declared.sources.Sources.{Sources}
 use Rattle.op_plan.specs.declared.error.PlanError.{PlanError}
-use Rattle.op_plan.specs.declared.error.PlanError.TheVariants.{NoSelection, Nested, Source, BadMask, Target, TargetThere, SameFile, IntoItself, TwoToOne, BadLinkText, Memory}
+use Rattle.op_plan.specs.declared.error.PlanError.TheVariants.{NoSelection, Nested, Source, BadMask}
+use Rattle.op_plan.specs.declared.error.PlanError.TheVariants.{Target, TargetThere, SameFile, IntoItself}
+use Rattle.op_plan.specs.declared.error.PlanError.TheVariants.{TwoToOne, BadLinkText, Memory}
 
 abbrev pub is_tree_fault : TreeError → Bool
 is_tree_fault tree.Fault = true
@@ -30,8 +33,8 @@ abbrev pub is_memory : PlanError → Bool
 is_memory Memory = true
 is_memory e = false
 
--- why there is no path for a new thing: what was typed ends in no name, its folder isn't found, or something stands there; or no
--- memory was left
+-- why there is no path for a new thing: what was typed ends in no name, its folder isn't found, or
+-- something stands there; or no memory was left
 abbrev pub IsPlaceError : PlanError → Type 0
 IsPlaceError BadMask = ⊤
 IsPlaceError (Target e) = ⊤
@@ -55,14 +58,15 @@ abbrev pub PlansSources : Result (List Route) PlanError → Result Sources PlanE
 PlansSources expected (Ok left) = expected ≡ Ok left.paths
 PlansSources expected (Err e) = (is_fault e || is_memory e) ≡ false → expected ≡ Err e
 
--- What a refusal says of a path is a cause: no want of memory, which is an error of its own, and in the target's folder no
--- fault, which names no path there.
+-- What a refusal says of a path is a cause: no want of memory, which is an error of its own, and in the
+-- target's folder no fault, which names no path there.
 abbrev pub CarriesPlanCause : PlanError → Type 0
 CarriesPlanCause (Source path e) = e ≢ tree.Memory
 CarriesPlanCause (Target e) = (CarriesCause e) × (e ≢ resolving.Memory)
 CarriesPlanCause e = ⊤
 
--- the count of faults doesn't fall, a fault is answered only where it has risen, and what a refusal says of a path is a cause
+-- the count of faults doesn't fall, a fault is answered only where it has risen, and what a refusal
+-- says of a path is a cause
 pub record HasPlanCause {A : Type 0} (before after : ℕ) (result : Result A PlanError) : Type 0 where
   pub later : before ≤ after
   pub risen : IfErr result (λ e. is_fault e ≡ true → HasRisen before after)

@@ -1,5 +1,6 @@
 -- The checks of a plan, each with the first sources that show it.
-use Rattle.std.specs.Prelude.{ℕ, Bool, if◌then◌else◌, nat_lt, List, [], ◌∷◌, length, map, Option, Some, None, option_map, Result, Ok, Err}
+use Rattle.std.specs.Prelude.{ℕ, Bool, if◌then◌else◌, nat_lt, List, [], ◌∷◌, length}
+use Rattle.std.specs.Prelude.{map, Option, Some, None, option_map, Result, Ok, Err}
 use Rattle.std.specs.List.{list_any, find}
 use Rattle.mc_text.specs.Routes.{Route, spelled_route, same_path}
 use Rattle.tree_trait.specs.declared.calls.TreeError.{TreeError}
@@ -9,7 +10,8 @@ use Rattle.tree_trait.specs.Refusals.{refusal_of}
 use Rattle.resolving.specs.declared.error.ResolveError.TheVariants.{TooLong}
 use Rattle.job_reports.specs.declared.job.Pair.{Pair}
 use Rattle.op_plan.specs.declared.error.PlanError.{PlanError}
-use Rattle.op_plan.specs.declared.error.PlanError.TheVariants.{NoSelection, Nested, Source, Target, SameFile, IntoItself, TwoToOne}
+use Rattle.op_plan.specs.declared.error.PlanError.TheVariants.{NoSelection, Nested, Source, Target}
+use Rattle.op_plan.specs.declared.error.PlanError.TheVariants.{SameFile, IntoItself, TwoToOne}
 use Rattle.op_plan.specs.Meeting.{meet, first_two, first_across}
 use Rattle.op_plan.specs.Answering.{and_then, unless}
 
@@ -46,7 +48,8 @@ target_in folder name = if is_too_long folder name then Err (Target TooLong) els
 
 -- the paths of these names in a folder
 abbrev pub targets_in : Route → List (List ℕ) → Result (List Route) PlanError
-targets_in folder names = if list_any (is_too_long folder) names then Err (Target TooLong) else Ok (map (λ name. name ∷ folder) names)
+targets_in folder names = if list_any (is_too_long folder) names then Err (Target TooLong)
+    else Ok (map (λ name. name ∷ folder) names)
 
 -- each source with its target
 abbrev pub paired_sources : List Route → List Route → List Pair
@@ -62,14 +65,16 @@ targets_from = map (λ (pair : Pair). pair.target)
 
 -- no source is its own target
 abbrev pub none_same : List Pair → Result (Unit {0}) PlanError
-none_same pairs = unless (option_map (λ (pair : Pair). SameFile pair.source) (find (λ (pair : Pair). same_path pair.source pair.target) pairs))
+none_same pairs = unless (option_map (λ (pair : Pair). SameFile pair.source)
+    (find (λ (pair : Pair). same_path pair.source pair.target) pairs))
 
 -- no source is, holds or lies in a target
 abbrev pub into_itself : Route × Route → PlanError
 into_itself (source, target) = IntoItself source target
 
 abbrev pub none_across : List Pair → Result (Unit {0}) PlanError
-none_across pairs = unless (option_map into_itself (first_across meet (sources_in pairs) (targets_from pairs)))
+none_across pairs =
+    unless (option_map into_itself (first_across meet (sources_in pairs) (targets_from pairs)))
 
 -- no source is its own target, and none is, holds or lies in a target
 abbrev pub none_into : List Pair → Result (Unit {0}) PlanError
@@ -80,7 +85,8 @@ abbrev pub two_to_one : Pair × Pair → PlanError
 two_to_one (first, second) = TwoToOne first.source second.source
 
 abbrev pub none_twice : List Pair → Result (Unit {0}) PlanError
-none_twice pairs = unless (option_map two_to_one (first_two (λ (a b : Pair). meet a.target b.target) [] pairs))
+none_twice pairs =
+    unless (option_map two_to_one (first_two (λ (a b : Pair). meet a.target b.target) [] pairs))
 
 -- the name of the folder's child that a path is or lies in
 abbrev pub child_above : Route → Route → Option (List ℕ)

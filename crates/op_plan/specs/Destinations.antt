@@ -25,7 +25,8 @@ prefix_part (byte ∷ text) = if has_slash text then byte ∷ prefix_part text e
 
 -- the text of the folder: what stands before the last slash, and the root's slash where nothing else does
 abbrev pub folder_prefix : List ℕ → List ℕ
-folder_prefix text = if has_slash text then (if is_empty (prefix_part text) then 47 ∷ [] else prefix_part text) else []
+folder_prefix text =
+    if has_slash text then (if is_empty (prefix_part text) then 47 ∷ [] else prefix_part text) else []
 
 -- the folder that a text leads to, if it leads to one
 abbrev pub folder_there : FileSystem → Route → List ℕ → Option Route

@@ -10,9 +10,11 @@ abbrev pub leaving : List (List ℕ) → Option (List ℕ) → Option (List ℕ 
 leaving stars None = None
 leaving stars (Some text) = Some (text, stars)
 
--- What a piece stands for, by the name, the captures, and those of them that no star has taken yet; and those that are left
--- for later stars. Nothing where it asks for one past the last, or is a backslash that ends the mask.
-abbrev pub taken_text : (name : List ℕ) (captures stars : List (List ℕ)) → MaskPiece → Option (List ℕ × List (List ℕ))
+-- What a piece stands for, by the name, the captures, and those of them that no star has taken yet;
+-- and those that are left for later stars. Nothing where it asks for one past the last, or is a
+-- backslash that ends the mask.
+abbrev pub taken_text : (name : List ℕ) (captures stars : List (List ℕ)) → MaskPiece
+    → Option (List ℕ × List (List ℕ))
 taken_text name captures stars (Plain c) = Some (encode_utf8 c, stars)
 taken_text name captures stars WholeName = Some (name, stars)
 taken_text name captures stars (Capture place) = leaving stars (slice_get captures place)
@@ -22,7 +24,8 @@ taken_text name captures stars OpenBackslash = None
 
 -- the text that it adds
 abbrev pub added_text : (name : List ℕ) (captures stars : List (List ℕ)) → MaskPiece → List ℕ
-added_text name captures stars piece = option_map_or (λ (text, left). text) (taken_text name captures stars piece) []
+added_text name captures stars piece =
+    option_map_or (λ (text, left). text) (taken_text name captures stars piece) []
 
 -- the text of a piece before that of the others, which is made with the captures that it leaves
 abbrev pub with_rest : Option (List ℕ × List (List ℕ)) → (List (List ℕ) → Option (List ℕ)) → Option (List ℕ)
@@ -32,4 +35,5 @@ with_rest (Some (text, left)) rest = before text (rest left)
 -- the text that pieces make of a name and of the captures, if each stands for one
 abbrev pub filled_with : (name : List ℕ) (captures stars : List (List ℕ)) → List MaskPiece → Option (List ℕ)
 filled_with name captures stars [] = Some []
-filled_with name captures stars (piece ∷ pieces) = with_rest (taken_text name captures stars piece) (λ left. filled_with name captures left pieces)
+filled_with name captures stars (piece ∷ pieces) =
+    with_rest (taken_text name captures stars piece) (λ left. filled_with name captures left pieces)

@@ -16,8 +16,8 @@ abbrev pub or_two : {X : Type 0} → Option X → X → Option (X × X) → Opti
 or_two None second later = later
 or_two (Some first) second later = Some (first, second)
 
--- The shortest front of a list of which two pass the test: the first that its last one passes with, and that last one. What
--- stands before the list counts as passed.
+-- The shortest front of a list of which two pass the test: the first that its last one passes with, and
+-- that last one. What stands before the list counts as passed.
 abbrev pub first_two : {X : Type 0} → (X → X → Bool) → (before : List X) → List X → Option (X × X)
 first_two test before [] = None
 first_two test before (x ∷ xs) = or_two (find (λ y. test y x) before) x (first_two test (before ++ x ∷ []) xs)

@@ -1,5 +1,6 @@
 -- Which sources a mask leaves in, and how their targets are named (mc(1), "Copy, Rename, ..": masks).
-use Rattle.std.specs.Prelude.{ℕ, Bool, false, if◌then◌else◌, List, [], ◌∷◌, Option, Some, None, option_map, option_and_then, is_none, filter, chars}
+use Rattle.std.specs.Prelude.{ℕ, Bool, false, if◌then◌else◌, List, [], ◌∷◌, Option, Some}
+use Rattle.std.specs.Prelude.{None, option_map, option_and_then, is_none, filter, chars}
 use Rattle.std.specs.Result.{result_ok}
 use Rattle.std.specs.Option.{option_map_or}
 use Rattle.mc_text.specs.Names.{name_fault}
@@ -35,7 +36,8 @@ target_text pattern mask name =
 
 -- the name of a source's target
 abbrev pub target_name : List GlobPart → List MaskPiece → Route → Option (List ℕ)
-target_name pattern mask source = option_and_then (λ name. option_and_then checked_name (target_text pattern mask name)) (last_of source)
+target_name pattern mask source =
+    option_and_then (λ name. option_and_then checked_name (target_text pattern mask name)) (last_of source)
 
 -- what comes of each, where something comes of all
 abbrev pub all_of : {X Y : Type 0} → (X → Option Y) → List X → Option (List Y)

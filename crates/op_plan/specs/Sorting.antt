@@ -1,6 +1,7 @@
--- Paths in an order in which each comes directly before all that lies below it: by their names from the root on, which are
--- compared byte by byte.
-use Rattle.std.specs.Prelude.{◌≡◌, ℕ, ◌<◌, Bool, false, not, ◌&&◌, ◌||◌, List, [], ◌∷◌, length, take, reverse, Option, Some, None}
+-- Paths in an order in which each comes directly before all that lies below it: by their names from the
+-- root on, which are compared byte by byte.
+use Rattle.std.specs.Prelude.{◌≡◌, ℕ, ◌<◌, Bool, false, not, ◌&&◌, ◌||◌, List}
+use Rattle.std.specs.Prelude.{[], ◌∷◌, length, take, reverse, Option, Some, None}
 use Rattle.std.specs.List.{position, slice_get}
 use Rattle.std.specs.Cmp.Lexicographic.{slice_cmp}
 use Rattle.std.specs.Ordering.{is_lt}
@@ -31,7 +32,8 @@ pub record AreFirst (paths : List Route) (first last : ℕ) : Type 0 where
   pub order : first < last
   pub within : last < length paths
   pub before : has_two meet (take last paths) ≡ false
-  pub first_is : (path : Route) → slice_get paths last ≡ Some path → position (λ other. meet other path) (take last paths) ≡ Some first
+  pub first_is : (path : Route) → slice_get paths last ≡ Some path
+      → position (λ other. meet other path) (take last paths) ≡ Some first
 
 abbrev pub IsFirstMeeting : List Route → Option (ℕ × ℕ) → Type 0
 IsFirstMeeting paths None = has_two meet paths ≡ false

@@ -7,7 +7,8 @@ use Rattle.job_reports.specs.declared.job.Pair.{Pair}
 use Rattle.op_plan.specs.declared.request.Request.{Request}
 use Rattle.op_plan.specs.declared.request.Request.TheVariants as asked
 use Rattle.op_plan.specs.declared.job.Job.{Job}
-use Rattle.op_plan.specs.declared.job.Job.TheVariants.{Copy, Move, Delete, MakeFolder, SetMode, MakeLink, Save}
+use Rattle.op_plan.specs.declared.job.Job.TheVariants.{Copy, Move, Delete, MakeFolder}
+use Rattle.op_plan.specs.declared.job.Job.TheVariants.{SetMode, MakeLink, Save}
 use Rattle.op_plan.specs.declared.sources.Sources.{Sources}
 use Rattle.op_plan.specs.Digests.{LieApart}
 use Rattle.op_plan.specs.Meeting.{meet, has_two}
@@ -22,7 +23,8 @@ pub record AreApart (paths : List Route) : Type 0 where
 abbrev pub IsHeld : Sources → Type 0
 IsHeld sources = IfSome sources.holder (λ folder. LieApart folder sources.paths)
 
--- at least one pair; no source is or holds another, no target is or holds another, and no source is, holds or lies in a target
+-- at least one pair; no source is or holds another, no target is or holds another, and no source is,
+-- holds or lies in a target
 pub record ArePairsApart (pairs : List Pair) : Type 0 where
   pub some : pairs ≢ []
   pub sources : has_two meet (sources_in pairs) ≡ false

@@ -1,5 +1,6 @@
 //! Sources with their targets: none is or holds another.
-ghost use Rattle.std.specs.Prelude.{◌≡◌, ◌≢◌, ◌<◌, ◌||◌, ℕ, length, List, [], ◌∷◌, true, false, map, option_map, IfOk, IfErr, IfSome, OnOk};
+ghost use Rattle.std.specs.Prelude.{◌≡◌, ◌≢◌, ◌<◌, ◌||◌, ℕ, length, List, [], ◌∷◌, true};
+ghost use Rattle.std.specs.Prelude.{false, map, option_map, IfOk, IfErr, IfSome, OnOk};
 ghost use Rattle.std.specs.List.{All, list_any, position};
 ghost use Rattle.std.specs.Option.{option_map_or};
 ghost use Rattle.std.specs.Str.{bytes_eq};
@@ -9,7 +10,9 @@ ghost use Rattle.job_reports.specs.declared.job.Pair.{Pair};
 ghost use Rattle.op_plan.specs.Answering.{Plans, is_fault, CarriesPlanCause, IsPlaceError};
 ghost use Rattle.op_plan.specs.Meeting.{meet, has_two};
 ghost use Rattle.op_plan.specs.Digests.{name_of, IsChild, LieBeside};
-ghost use Rattle.op_plan.specs.Checks.{none_same, none_across, none_into, none_twice, is_too_long, targets_in, targets_from, sources_in, pair, paired_sources, child_above};
+ghost use Rattle.op_plan.specs.Checks.{none_same, none_across, none_into, none_twice};
+ghost use Rattle.op_plan.specs.Checks.{is_too_long, targets_in, targets_from};
+ghost use Rattle.op_plan.specs.Checks.{sources_in, pair, paired_sources, child_above};
 ghost use Rattle.op_plan.specs.Planning.{pairs_into};
 ghost use Rattle.op_plan.specs.Soundness.{ArePairsApart};
 
@@ -46,14 +49,16 @@ pub fn pairs_into(
     Ok(pairs)
 }
 
-/// The sources, each with the target of its own name in the folder. They lie side by side in another one, beside this.
+/// The sources, each with the target of its own name in the folder. They lie side by side in
+/// another one, beside this.
 pub fn pairs_beside(alloc: Global, folder: &Path, sources: Paths) -> Result<Pairs, PlanError>
     requires some { sources ≢ [] }
     requires beside { LieBeside folder.now sources }
     ensures answer { Plans (pairs_into folder.now sources (map name_of sources)) result }
     ensures apart { IfOk result ArePairsApart }
     ensures sources { IfOk result (λ pairs. sources_in pairs ≡ sources) }
-    ensures placed { IfOk result (λ pairs. targets_from pairs ≡ map (λ name. name ∷ folder.now) (map name_of sources)) }
+    ensures placed { IfOk result (λ pairs.
+        targets_from pairs ≡ map (λ name. name ∷ folder.now) (map name_of sources)) }
     ensures no_fault { IfErr result (λ e. is_fault e ≡ false) }
     ensures carried { IfErr result CarriesPlanCause }
 {
@@ -63,10 +68,12 @@ pub fn pairs_beside(alloc: Global, folder: &Path, sources: Paths) -> Result<Pair
 /// The sources, each with the target of its own name in the folder.
 fn kept_pairs(alloc: Global, folder: &Path, sources: Paths) -> Result<Pairs, PlanError>
     requires { (holder : Route) × All (IsChild holder) sources }
-    ensures made { IfOk result (λ pairs. pairs ≡ map (λ source. pair source (name_of source ∷ folder.now)) sources) }
+    ensures made { IfOk result (λ pairs.
+        pairs ≡ map (λ source. pair source (name_of source ∷ folder.now)) sources) }
     ensures fits { OnOk result (list_any (is_too_long folder.now) (map name_of sources) ≡ false) }
     ensures too_long { IfErr result (λ e. e ≢ PlanError.Memory
-        → (e ≡ PlanError.Target ResolveError.TooLong) × (list_any (is_too_long folder.now) (map name_of sources) ≡ true)) }
+        → (e ≡ PlanError.Target ResolveError.TooLong)
+        × (list_any (is_too_long folder.now) (map name_of sources) ≡ true)) }
     ensures no_fault { IfErr result (λ e. is_fault e ≡ false) }
     ensures carried { IfErr result CarriesPlanCause }
 {
@@ -88,7 +95,8 @@ fn kept_target(alloc: Global, folder: &Path, source: &Path) -> Result<Path, Plan
     ensures joined { IfOk result (λ target. target ≡ name_of source.now ∷ folder.now) }
     ensures fits { OnOk result (is_too_long folder.now (name_of source.now) ≡ false) }
     ensures too_long { IfErr result (λ e. e ≢ PlanError.Memory
-        → (e ≡ PlanError.Target ResolveError.TooLong) × (is_too_long folder.now (name_of source.now) ≡ true)) }
+        → (e ≡ PlanError.Target ResolveError.TooLong)
+        × (is_too_long folder.now (name_of source.now) ≡ true)) }
     ensures no_fault { IfErr result (λ e. is_fault e ≡ false) }
     ensures carried { IfErr result CarriesPlanCause }
 {
@@ -146,8 +154,8 @@ fn paired(alloc: Global, sources: Paths, targets: Paths) -> Result<Pairs, NoMemo
     Ok(Pairs(pairs))
 }
 
-/// Refuses a source that is its own target, or that is, holds or lies in one. The targets have these names in the folder, so
-/// where no source has to do with the folder, none has to do with a target.
+/// Refuses a source that is its own target, or that is, holds or lies in one. The targets have these names
+/// in the folder, so where no source has to do with the folder, none has to do with a target.
 #[tactic(auto, using(crate::proofs::ApartLemmas::none_into_apart, crate::proofs::ApartLemmas::sources_apart))]
 fn refuse_into(
     alloc: Global,
@@ -157,7 +165,8 @@ fn refuse_into(
 ) -> Result<(), PlanError>
     requires { targets_from pairs.now ≡ map (λ name. name ∷ folder.now) names.now }
     ensures answer { Plans (none_into pairs.now) result }
-    ensures apart { OnOk result (list_any (λ source. list_any (meet source) (targets_from pairs.now)) (sources_in pairs.now) ≡ false) }
+    ensures apart { OnOk result (list_any (λ source. list_any (meet source) (targets_from pairs.now))
+        (sources_in pairs.now) ≡ false) }
     ensures no_fault { IfErr result (λ e. is_fault e ≡ false) }
     ensures carried { IfErr result CarriesPlanCause }
 {
@@ -204,7 +213,8 @@ fn refuse_across(
 ) -> Result<(), PlanError>
     requires { targets_from pairs.now ≡ map (λ name. name ∷ folder.now) names.now }
     ensures answer { Plans (none_across pairs.now) result }
-    ensures apart { OnOk result (list_any (λ source. list_any (meet source) (targets_from pairs.now)) (sources_in pairs.now) ≡ false) }
+    ensures apart { OnOk result (list_any (λ source. list_any (meet source) (targets_from pairs.now))
+        (sources_in pairs.now) ≡ false) }
     ensures no_fault { IfErr result (λ e. is_fault e ≡ false) }
     ensures carried { IfErr result CarriesPlanCause }
 {
@@ -224,7 +234,8 @@ fn refuse_across(
 
 /// The texts of names, as a set.
 fn texts_in(alloc: Global, names: &[Name]) -> Result<BTreeSet<String>, NoMemory>
-    ensures { IfOk result (λ texts. (name : List ℕ) → contains_text texts name ≡ list_any (bytes_eq name) names.now) }
+    ensures { IfOk result
+        (λ texts. (name : List ℕ) → contains_text texts name ≡ list_any (bytes_eq name) names.now) }
 {
     let mut texts = BTreeSet::new(alloc);
     for name in names {
@@ -235,7 +246,8 @@ fn texts_in(alloc: Global, names: &[Name]) -> Result<BTreeSet<String>, NoMemory>
 
 /// Whether a path is, holds or lies in what has one of these names in the folder.
 fn meets_any(folder: &Path, names: &BTreeSet<String>, path: &Path) -> bool
-    ensures { result ≡ (is_prefix path.now folder.now || option_map_or (contains_text names.now) (child_above folder.now path.now) false) }
+    ensures { result ≡ (is_prefix path.now folder.now
+        || option_map_or (contains_text names.now) (child_above folder.now path.now) false) }
 {
     if path.is_prefix_of(folder) {
         return true;

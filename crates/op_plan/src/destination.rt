@@ -12,7 +12,8 @@ use std::alloc::Global;
 use text_scan::split_at_last_mark;
 use tree_trait::ReadTree;
 
-/// What stands before the last slash of a text, the root's slash where nothing else does, and what stands behind it.
+/// What stands before the last slash of a text, the root's slash where nothing else does,
+/// and what stands behind it.
 pub fn split_last(text: &str) -> (&str, &str)
     ensures front { result.0.now ≡ folder_prefix text.now }
     ensures last { result.1.now ≡ last_part text.now }
@@ -36,7 +37,8 @@ pub fn folder_there<T: ReadTree>(
     from: &Path,
     to: &str,
 ) -> Result<Option<Path>, PlanError>
-    ensures answer { IfKnown (T.contents tree.old) (λ log. Plans (Ok (folder_there (current log) from.now to.now)) result) }
+    ensures answer { IfKnown (T.contents tree.old) (λ log.
+        Plans (Ok (folder_there (current log) from.now to.now)) result) }
     ensures same { T.contents tree.new ≡ T.contents tree.old }
     ensures cause { HasPlanCause (T.fault_count tree.old) (T.fault_count tree.new) result }
 {
@@ -55,7 +57,8 @@ pub fn folder_at<T: ReadTree>(
     from: &Path,
     front: &str,
 ) -> Result<Path, PlanError>
-    ensures answer { IfKnown (T.contents tree.old) (λ log. Plans (folder_at (current log) from.now front.now) result) }
+    ensures answer { IfKnown (T.contents tree.old) (λ log.
+        Plans (folder_at (current log) from.now front.now) result) }
     ensures same { T.contents tree.new ≡ T.contents tree.old }
     ensures cause { HasPlanCause (T.fault_count tree.old) (T.fault_count tree.new) result }
     ensures only { IfErr result IsPlaceError }

@@ -28,7 +28,8 @@ pub fn folder_of_all(alloc: Global, paths: &[Path]) -> Result<Option<Path>, NoMe
     }
 }
 
-/// Whether the paths lie in the folder, each under a name of its own. It may be denied where two numbers are one.
+/// Whether the paths lie in the folder, each under a name of its own. It may be denied
+/// where two numbers are one.
 fn lie_apart(alloc: Global, folder: &Path, paths: &[Path]) -> Result<bool, NoMemory>
     ensures { IfOk result (λ apart. OnTrue apart (LieApart folder.now paths.now)) }
 {

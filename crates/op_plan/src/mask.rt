@@ -100,10 +100,11 @@ impl Mask {
         matches!(self.pieces.as_slice(), [MaskPiece::Star])
     }
 
-    /// The text that the mask makes of a name and of what the wildcards of the source's mask took of it. `BadMask` where it
-    /// asks for more than was taken, and where it ends in a backslash.
+    /// The text that the mask makes of a name and of what the wildcards of the source's mask took of it.
+    /// `BadMask` where it asks for more than was taken, and where it ends in a backslash.
     pub fn fill(&self, alloc: Global, name: &str, captures: &[Text]) -> Result<Text, PlanError>
-        ensures filled { IfOk result (λ text. filled_with name.now captures.now captures.now self.now ≡ Some text) }
+        ensures filled { IfOk result (λ text.
+            filled_with name.now captures.now captures.now self.now ≡ Some text) }
         ensures bad { IfErr result (λ e. e ≢ PlanError.Memory
             → (e ≡ PlanError.BadMask) × (filled_with name.now captures.now captures.now self.now ≡ None)) }
         ensures no_fault { IfErr result (λ e. is_fault e ≡ false) }
@@ -128,7 +129,8 @@ fn put_piece<'a>(
 ) -> Result<&'a [Text], PlanError>
     ensures put { IfOk result (λ left. taken_text name.now captures.now stars.now piece
         ≡ Some (added_text name.now captures.now stars.now piece, left.now)) }
-    ensures text { OnOk result (string_bytes text.new ≡ string_bytes text.old ++ added_text name.now captures.now stars.now piece) }
+    ensures text { OnOk result
+        (string_bytes text.new ≡ string_bytes text.old ++ added_text name.now captures.now stars.now piece) }
     ensures bad { IfErr result (λ e. e ≢ PlanError.Memory
         → (e ≡ PlanError.BadMask) × (taken_text name.now captures.now stars.now piece ≡ None)) }
     ensures no_fault { IfErr result (λ e. is_fault e ≡ false) }

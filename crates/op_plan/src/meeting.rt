@@ -1,5 +1,6 @@
 //! Paths of which one is the other or lies below it, found by sorting: the number of paths is never squared.
-ghost use Rattle.std.specs.Prelude.{◌≡◌, ◌+◌, ◌<◌, ◌∷◌, true, false, None, IfOk, IfSome, map, option_map, take, length};
+ghost use Rattle.std.specs.Prelude.{◌≡◌, ◌+◌, ◌<◌, ◌∷◌, true, false, None, IfOk};
+ghost use Rattle.std.specs.Prelude.{IfSome, map, option_map, take, length};
 ghost use Rattle.std.specs.List.{position};
 ghost use Rattle.std.specs.Cmp.Lexicographic.{slice_cmp};
 ghost use Rattle.std.specs.List.Sorted.{IsPermutation, IsSorted};
@@ -22,8 +23,8 @@ pub fn meet(mine: &Path, theirs: &Path) -> bool
     mine.is_prefix_of(theirs) || theirs.is_prefix_of(mine)
 }
 
-/// The shortest front of the paths in which two meet: the first that its last one meets, and that last one, by their
-/// positions. The time grows as the number of paths times the square of its logarithm.
+/// The shortest front of the paths in which two meet: the first that its last one meets, and that last one,
+/// by their positions. The time grows as the number of paths times the square of its logarithm.
 pub fn first_meeting(alloc: Global, paths: &[Path]) -> Result<Option<(usize, usize)>, NoMemory>
     ensures { IfOk result (λ found. IsFirstMeeting paths.now found) }
 {
@@ -37,7 +38,8 @@ pub fn first_meeting(alloc: Global, paths: &[Path]) -> Result<Option<(usize, usi
     }
 }
 
-/// Whether two of the paths meet. Where each comes before the next one, as in a listing, they need not be sorted.
+/// Whether two of the paths meet. Where each comes before the next one, as in a listing,
+/// they need not be sorted.
 fn any_meet(alloc: Global, paths: &[Path]) -> Result<bool, NoMemory>
     ensures { IfOk result (λ found. found ≡ has_two meet paths.now) }
 {
@@ -66,7 +68,8 @@ fn comes_apart(path: &Path, next: &Path) -> bool
     order(path, next) == Ordering::Less && !path.is_prefix_of(next)
 }
 
-/// Whether two of the paths meet. None do that lie side by side in one folder. Else they are sorted: two neighbours meet then.
+/// Whether two of the paths meet. None do that lie side by side in one folder. Else they are sorted:
+/// two neighbours meet then.
 fn scattered_meet(alloc: Global, paths: &[Path]) -> Result<bool, NoMemory>
     ensures { IfOk result (λ found. found ≡ has_two meet paths.now) }
 {
@@ -116,7 +119,8 @@ pub fn last_name(path: &Path) -> Option<&Name>
 
 /// The paths in their order by names.
 fn sorted<'a>(alloc: Global, paths: &'a [Path]) -> Result<Vec<&'a Path>, NoMemory>
-    ensures permutation { IfOk result (λ sorted. IsPermutation paths.now (map (λ path. path.now) sorted.items)) }
+    ensures permutation { IfOk result (λ sorted.
+        IsPermutation paths.now (map (λ path. path.now) sorted.items)) }
     ensures sorted { IfOk result (λ sorted. IsSorted route_cmp (map (λ path. path.now) sorted.items)) }
 {
     let mut sorted = Vec::with_capacity(alloc, paths.len())?;
@@ -127,7 +131,8 @@ fn sorted<'a>(alloc: Global, paths: &'a [Path]) -> Result<Vec<&'a Path>, NoMemor
     Ok(sorted)
 }
 
-/// How two paths stand in the order of their names, from the root on. A path comes directly before all that lies below it.
+/// How two paths stand in the order of their names, from the root on. A path comes directly
+/// before all that lies below it.
 fn order(mine: &Path, theirs: &Path) -> Ordering
     ensures { result ≡ route_cmp mine.now theirs.now }
 {

@@ -3,7 +3,8 @@ ghost use Rattle.std.specs.Prelude.{◌≡◌, ◌≢◌, false, filter, length,
 ghost use Rattle.op_plan.specs.Answering.{is_fault, CarriesPlanCause, IsPlaceError};
 ghost use Rattle.op_plan.specs.Masks.{keeps_name};
 ghost use Rattle.op_plan.specs.Stars.{is_star};
-ghost use Rattle.op_plan.specs.Naming.{pattern_in, chosen_sources, has_match, target_text, target_name, all_of, names_for, checked_name};
+ghost use Rattle.op_plan.specs.Naming.{pattern_in, chosen_sources, has_match, target_text};
+ghost use Rattle.op_plan.specs.Naming.{target_name, all_of, names_for, checked_name};
 
 use crate::error::PlanError;
 use crate::mask::Mask;
@@ -90,7 +91,8 @@ fn target_names(
     mask: &Mask,
     sources: &[Path],
 ) -> Result<Names, PlanError>
-    ensures named { IfOk result (λ names. all_of (target_name pattern.now mask.now) sources.now ≡ Some names) }
+    ensures named { IfOk result (λ names.
+        all_of (target_name pattern.now mask.now) sources.now ≡ Some names) }
     ensures many { IfOk result (λ names. length names ≡ length sources.now) }
     ensures bad { IfErr result (λ e. e ≢ PlanError.Memory
         → (e ≡ PlanError.BadMask) × (all_of (target_name pattern.now mask.now) sources.now ≡ None)) }
@@ -134,7 +136,8 @@ fn target_name(
 pub fn name_in(alloc: Global, text: &str) -> Result<Name, PlanError>
     ensures named { IfOk result (λ name. checked_name text.now ≡ Some name) }
     ensures text { IfOk result (λ name. name ≡ text.now) }
-    ensures bad { IfErr result (λ e. e ≢ PlanError.Memory → (e ≡ PlanError.BadMask) × (checked_name text.now ≡ None)) }
+    ensures bad { IfErr result (λ e. e ≢ PlanError.Memory
+        → (e ≡ PlanError.BadMask) × (checked_name text.now ≡ None)) }
     ensures only { IfErr result IsPlaceError }
     ensures no_fault { IfErr result (λ e. is_fault e ≡ false) }
     ensures carried { IfErr result CarriesPlanCause }

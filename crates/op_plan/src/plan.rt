@@ -2,7 +2,8 @@
 ghost use Rattle.std.specs.Prelude.{◌≡◌, ◌≢◌, ◌≤◌, ◌==◌, not, false, All, Ok, IfOk, IfErr, Some, [], ◌∷◌};
 ghost use Rattle.tree_trait.specs.Change.{current};
 ghost use Rattle.tree_trait.specs.Answers.{IfKnown};
-ghost use Rattle.op_plan.specs.Answering.{Plans, PlansSources, and_then, is_fault, HasPlanCause, CarriesPlanCause, IsPlaceError};
+ghost use Rattle.op_plan.specs.Answering.{Plans, PlansSources, and_then, is_fault};
+ghost use Rattle.op_plan.specs.Answering.{HasPlanCause, CarriesPlanCause, IsPlaceError};
 ghost use Rattle.std.specs.Bool.{OnTrue, OnFalse};
 ghost use Rattle.std.specs.List.{list_any};
 ghost use Rattle.std.specs.Option.{option_map_or};
@@ -10,7 +11,8 @@ ghost use Rattle.op_plan.specs.Meeting.{meet};
 ghost use Rattle.tree_trait.specs.Answers.{IsLinkText};
 ghost use Rattle.tree_trait.specs.Calls.{Stat};
 ghost use Rattle.tree_trait.specs.Refusals.{refusal_of};
-ghost use Rattle.op_plan.specs.Planning.{plan_of, pairs_of, sources_of, folder_for, placed_there, placed_masked, place_of, nothing_there, is_link_text, link_of};
+ghost use Rattle.op_plan.specs.Planning.{plan_of, pairs_of, sources_of, folder_for, placed_there};
+ghost use Rattle.op_plan.specs.Planning.{placed_masked, place_of, nothing_there, is_link_text, link_of};
 ghost use Rattle.op_plan.specs.Soundness.{AreApart, ArePairsApart, IsHeld, IsSound, HasMode};
 ghost use Rattle.op_plan.specs.Asking.{ArePlaced, ArePairsFor, IsJobFor};
 ghost use Rattle.op_plan.specs.Destinations.{last_part};
@@ -77,7 +79,8 @@ pub fn make_plan<T: ReadTree>(
 
 /// The deletion of sources.
 fn plan_deletion<T: ReadTree>(alloc: Global, tree: &mut T, sources: Paths) -> Result<Job, PlanError>
-    ensures answer { IfKnown (T.contents tree.old) (λ log. Plans (and_then (sources_of (current log) sources) (λ left. Ok (Job.Delete left))) result) }
+    ensures answer { IfKnown (T.contents tree.old) (λ log.
+        Plans (and_then (sources_of (current log) sources) (λ left. Ok (Job.Delete left))) result) }
     ensures same { T.contents tree.new ≡ T.contents tree.old }
     ensures cause { HasPlanCause (T.fault_count tree.old) (T.fault_count tree.new) result }
     ensures sound { IfOk result IsSound }
@@ -94,7 +97,8 @@ fn plan_mode<T: ReadTree>(
     mode: u16,
 ) -> Result<Job, PlanError>
     requires { mode ≤ 0o7777 }
-    ensures answer { IfKnown (T.contents tree.old) (λ log. Plans (and_then (sources_of (current log) sources) (λ left. Ok (Job.SetMode left mode))) result) }
+    ensures answer { IfKnown (T.contents tree.old) (λ log.
+        Plans (and_then (sources_of (current log) sources) (λ left. Ok (Job.SetMode left mode))) result) }
     ensures same { T.contents tree.new ≡ T.contents tree.old }
     ensures cause { HasPlanCause (T.fault_count tree.old) (T.fault_count tree.new) result }
     ensures sound { IfOk result IsSound }
@@ -110,7 +114,8 @@ fn plan_folder<T: ReadTree>(
     from: &Path,
     to: &str,
 ) -> Result<Job, PlanError>
-    ensures answer { IfKnown (T.contents tree.old) (λ log. Plans (and_then (place_of (current log) from.now to.now) (λ path. Ok (Job.MakeFolder path))) result) }
+    ensures answer { IfKnown (T.contents tree.old) (λ log.
+        Plans (and_then (place_of (current log) from.now to.now) (λ path. Ok (Job.MakeFolder path))) result) }
     ensures same { T.contents tree.new ≡ T.contents tree.old }
     ensures cause { HasPlanCause (T.fault_count tree.old) (T.fault_count tree.new) result }
     ensures sound { IfOk result IsSound }
@@ -154,7 +159,8 @@ fn folder_for<T: ReadTree>(
     from: &Path,
     to: &str,
 ) -> Result<Option<Path>, PlanError>
-    ensures answer { IfKnown (T.contents tree.old) (λ log. Plans (Ok (folder_for (current log) mask.now from.now to.now)) result) }
+    ensures answer { IfKnown (T.contents tree.old) (λ log.
+        Plans (Ok (folder_for (current log) mask.now from.now to.now)) result) }
     ensures same { T.contents tree.new ≡ T.contents tree.old }
     ensures cause { HasPlanCause (T.fault_count tree.old) (T.fault_count tree.new) result }
 {
@@ -230,7 +236,8 @@ fn plan_masked<T: ReadTree>(
     front: &str,
 ) -> Result<Pairs, PlanError>
     requires { AreApart sources }
-    ensures answer { IfKnown (T.contents tree.old) (λ log. Plans (placed_masked (current log) pattern.now sources mask.now from.now front.now) result) }
+    ensures answer { IfKnown (T.contents tree.old) (λ log.
+        Plans (placed_masked (current log) pattern.now sources mask.now from.now front.now) result) }
     ensures same { T.contents tree.new ≡ T.contents tree.old }
     ensures cause { HasPlanCause (T.fault_count tree.old) (T.fault_count tree.new) result }
     ensures apart { IfOk result ArePairsApart }
@@ -248,7 +255,8 @@ fn plan_sources<T: ReadTree>(
     tree: &mut T,
     sources: Paths,
 ) -> Result<Sources, PlanError>
-    ensures answer { IfKnown (T.contents tree.old) (λ log. PlansSources (sources_of (current log) sources) result) }
+    ensures answer { IfKnown (T.contents tree.old) (λ log.
+        PlansSources (sources_of (current log) sources) result) }
     ensures same { T.contents tree.new ≡ T.contents tree.old }
     ensures cause { HasPlanCause (T.fault_count tree.old) (T.fault_count tree.new) result }
     ensures left { IfOk result (λ left. left.paths ≡ sources) }
@@ -274,7 +282,8 @@ pub fn plan_place<T: ReadTree>(
     from: &Path,
     to: &str,
 ) -> Result<Path, PlanError>
-    ensures answer { IfKnown (T.contents tree.old) (λ log. Plans (place_of (current log) from.now to.now) result) }
+    ensures answer { IfKnown (T.contents tree.old) (λ log.
+        Plans (place_of (current log) from.now to.now) result) }
     ensures same { T.contents tree.new ≡ T.contents tree.old }
     ensures cause { HasPlanCause (T.fault_count tree.old) (T.fault_count tree.new) result }
     ensures named { IfOk result (λ path. last_of path ≡ Some (last_part to.now)) }
@@ -289,7 +298,8 @@ pub fn plan_place<T: ReadTree>(
 
 /// Refuses a path at which something stands.
 fn refuse_there<T: ReadTree>(alloc: Global, tree: &mut T, target: Path) -> Result<Path, PlanError>
-    ensures answer { IfKnown (T.contents tree.old) (λ log. Plans (nothing_there (refusal_of (current log) (Stat target)) target) result) }
+    ensures answer { IfKnown (T.contents tree.old) (λ log.
+        Plans (nothing_there (refusal_of (current log) (Stat target)) target) result) }
     ensures same { T.contents tree.new ≡ T.contents tree.old }
     ensures cause { HasPlanCause (T.fault_count tree.old) (T.fault_count tree.new) result }
     ensures place { IfOk result (λ path. path ≡ target) }
@@ -312,7 +322,8 @@ fn plan_link<T: ReadTree>(
     to: &str,
     text: Text,
 ) -> Result<Job, PlanError>
-    ensures answer { IfKnown (T.contents tree.old) (λ log. Plans (link_of (current log) from.now to.now text) result) }
+    ensures answer { IfKnown (T.contents tree.old) (λ log.
+        Plans (link_of (current log) from.now to.now text) result) }
     ensures same { T.contents tree.new ≡ T.contents tree.old }
     ensures cause { HasPlanCause (T.fault_count tree.old) (T.fault_count tree.new) result }
     ensures sound { IfOk result IsSound }

@@ -60,7 +60,8 @@ pub fn look_at_all<T: ReadTree>(
     tree: &mut T,
     sources: &[Path],
 ) -> Result<(), PlanError>
-    ensures answer { IfKnown (T.contents tree.old) (λ log. Plans (all_there (current log) sources.now) result) }
+    ensures answer { IfKnown (T.contents tree.old) (λ log.
+        Plans (all_there (current log) sources.now) result) }
     ensures same { T.contents tree.new ≡ T.contents tree.old }
     ensures cause { HasPlanCause (T.fault_count tree.old) (T.fault_count tree.new) result }
 {

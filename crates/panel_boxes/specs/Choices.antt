@@ -1,10 +1,11 @@
--- What may be set in the list of options, and what its rows say (mc(1), "Menu Bar": "Left and Right Menus"; "Options Menu": shell
--- patterns). Own: they are one list, of the current panel.
+-- What may be set in the list of options, and what its rows say (mc(1), "Menu Bar": "Left and Right Menus";
+-- "Options Menu": shell patterns). Own: they are one list, of the current panel.
 use Rattle.std.specs.Prelude.{ℕ, List, [], ◌∷◌, codes}
 use Rattle.panel_listing.specs.declared.wish.Order.{Order}
 use Rattle.panel_listing.specs.declared.wish.Order.TheVariants.{Name, Extension, Size, Time, Unsorted}
 use Rattle.panel_boxes.specs.declared.options.PanelOption.{PanelOption}
-use Rattle.panel_boxes.specs.declared.options.PanelOption.TheVariants.{ListFull, ListBrief, ListUser, SortBy, Reverse, Filter, ShellPatterns}
+use Rattle.panel_boxes.specs.declared.options.PanelOption.TheVariants.{ListFull, ListBrief, ListUser, SortBy}
+use Rattle.panel_boxes.specs.declared.options.PanelOption.TheVariants.{Reverse, Filter, ShellPatterns}
 
 -- all of them, in the order of the list
 abbrev pub all_options : List PanelOption

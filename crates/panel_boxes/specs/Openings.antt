@@ -1,5 +1,5 @@
--- The keys that open the boxes of the panels, and the boxes as they open (mc(1), "Directory Panels": `+`, `\` and `-`; "Menu Bar": F9;
--- "Miscellaneous Keys": C-x). Own: the options are one list.
+-- The keys that open the boxes of the panels, and the boxes as they open (mc(1), "Directory Panels": `+`,
+-- `\` and `-`; "Menu Bar": F9; "Miscellaneous Keys": C-x). Own: the options are one list.
 use Rattle.std.specs.Prelude.{ℕ, ◌==◌, false, if◌then◌else◌, List, [], map, codes, Option, Some, None}
 use Rattle.key_screen.specs.declared.keys.Key.{Key}
 use Rattle.key_screen.specs.declared.keys.Base.{Base}

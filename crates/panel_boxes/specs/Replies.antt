@@ -1,5 +1,7 @@
--- What a key comes to in each box of the panels (mc(1), "Directory Panels", "Menu Bar", "Miscellaneous Keys").
-use Rattle.std.specs.Prelude.{◌≡◌, ⊤, ℕ, Bool, true, false, not, ◌==◌, if◌then◌else◌, List, [], ◌∷◌, codes, slice_get, Option, Some, None, Result, Ok, Err}
+-- What a key comes to in each box of the panels (mc(1), "Directory Panels", "Menu
+-- Bar", "Miscellaneous Keys").
+use Rattle.std.specs.Prelude.{◌≡◌, ⊤, ℕ, Bool, true, false, not, ◌==◌, if◌then◌else◌, List}
+use Rattle.std.specs.Prelude.{[], ◌∷◌, codes, slice_get, Option, Some, None, Result, Ok, Err}
 use Rattle.key_screen.specs.declared.keys.Key.{Key}
 use Rattle.key_screen.specs.declared.keys.Base.{Base}
 use Rattle.key_screen.specs.declared.keys.Base.TheVariants.{Char, Unknown}
@@ -28,7 +30,8 @@ use Rattle.panel_boxes.specs.declared.panel_box.Asked.TheVariants as asked
 use Rattle.panel_boxes.specs.declared.panel_box.PanelBox.{PanelBox}
 use Rattle.panel_boxes.specs.declared.panel_box.PanelBox.TheVariants.{Pending, Typed, Options}
 use Rattle.panel_boxes.specs.declared.panel_box.PanelReply.{PanelReply}
-use Rattle.panel_boxes.specs.declared.panel_box.PanelReply.TheVariants.{Stays, Shuts, Opens, Does, ListsJobs, AsksLink, AsksMode, Refuses}
+use Rattle.panel_boxes.specs.declared.panel_box.PanelReply.TheVariants.{Stays, Shuts, Opens, Does, ListsJobs}
+use Rattle.panel_boxes.specs.declared.panel_box.PanelReply.TheVariants.{AsksLink, AsksMode, Refuses}
 use Rattle.panel_boxes.specs.Choices.{all_options}
 use Rattle.panel_boxes.specs.Openings.{filter_text, line_of}
 
@@ -75,10 +78,11 @@ line_reply kind asked (Closed other) = Shuts
 
 -- WHAT WAS CHOSEN
 
--- What an option comes to for a panel. The format that is asked for is at first the one that was shown last, and the filter the one
--- that is wished for.
+-- What an option comes to for a panel. The format that is asked for is at first the one that was shown
+-- last, and the filter the one that is wished for.
 abbrev pub option_reply : PanelState → PanelOption → PanelReply
-option_reply p option.ListFull = Does (command.ShowColumns (record { layout = Columns; text = codes "half type name | size | mtime" }))
+option_reply p option.ListFull =
+    Does (command.ShowColumns (record { layout = Columns; text = codes "half type name | size | mtime" }))
 option_reply p option.ListBrief = Does command.ShowBrief
 option_reply p option.ListUser = Opens (Typed asked.Format (line_of asked.Format p.format.text))
 option_reply p (option.SortBy order) = Does (command.Arrange (Sorted order))
@@ -99,8 +103,8 @@ options_reply p (Closed other) = Shuts
 
 -- KEYS
 
--- the key behind C-x: `c` asks for a mode, `d` compares the panels, `j` lists the live jobs, `s` asks for a new link, and no other does
--- anything
+-- the key behind C-x: `c` asks for a mode, `d` compares the panels, `j` lists the live jobs, `s` asks for a
+-- new link, and no other does anything
 abbrev pub letter_pending : ℕ → PanelReply
 letter_pending code =
     if code == 99 then AsksMode

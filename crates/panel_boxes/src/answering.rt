@@ -2,7 +2,10 @@
 ghost use Rattle.std.specs.Prelude.{◌≡◌, false, OnErr, OnOk, IfOk};
 ghost use Rattle.mc_dialogs.specs.InputKeys.{input_after, input_shut};
 ghost use Rattle.mc_dialogs.specs.ListKeys.{list_shut};
-ghost use Rattle.panel_boxes.specs.Replies.{box_after, is_key as does_spell, line_reply, list_kept, option_reply as option_reply_of, options_reply, pending_reply as pending_by, reply_to, row_reply as row_reply_of, stays, SameWhereClosed};
+ghost use Rattle.panel_boxes.specs.Replies.{box_after, is_key as does_spell, line_reply};
+ghost use Rattle.panel_boxes.specs.Replies.{list_kept, option_reply as option_reply_of};
+ghost use Rattle.panel_boxes.specs.Replies.{options_reply, pending_reply as pending_by, reply_to};
+ghost use Rattle.panel_boxes.specs.Replies.{row_reply as row_reply_of, stays, SameWhereClosed};
 
 use crate::opening::{filter_text, typed};
 use crate::options::{PanelOption, option_at};
@@ -17,7 +20,8 @@ use std::alloc::Global;
 use tagging::PatternKind;
 
 impl PanelBox {
-    /// What it comes to by a key over these panels. Unless it stays it is as it was, as it is where memory is wanting.
+    /// What it comes to by a key over these panels. Unless it stays it is as it was, as it is
+    /// where memory is wanting.
     pub fn key(&mut self, alloc: Global, panels: &Panels, key: Key) -> Result<PanelReply, NoMemory>
         ensures reply { IfOk result (λ reply. reply ≡ reply_to panels.now self.old key) }
         ensures state { OnOk result (self.new ≡ box_after self.old key) }

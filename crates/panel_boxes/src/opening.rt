@@ -1,6 +1,7 @@
 //! The keys that open the boxes, and the boxes as they open.
 ghost use Rattle.std.specs.Prelude.{◌≡◌, IfOk};
-ghost use Rattle.panel_boxes.specs.Openings.{filter_text, line_of, opened_panel_box, opening_of as opening_by, plain_opening, title_of};
+ghost use Rattle.panel_boxes.specs.Openings.{filter_text, line_of, opened_panel_box};
+ghost use Rattle.panel_boxes.specs.Openings.{opening_of as opening_by, plain_opening, title_of};
 
 use crate::options::option_rows;
 use crate::panel_box::{Asked, PanelBox};

@@ -6,7 +6,8 @@ use mc_text::{NoMemory, Rows, Text};
 use panel_listing::Order;
 use std::alloc::Global;
 
-/// What a row of the list does for the current panel, but for the last one, which is for all patterns that are typed.
+/// What a row of the list does for the current panel, but for the last one, which is for all
+/// patterns that are typed.
 #[derive(Clone, Copy, Debug)]
 pub enum PanelOption {
     /// Rows of the format that panels have at first.

@@ -2,7 +2,8 @@
 ghost use Rattle.std.specs.Prelude.{◌≡◌, ◌≢◌, IfOk};
 ghost use Rattle.tagging.specs.TypedPatterns.{pattern_in};
 ghost use Rattle.panel_listing.specs.FormatTexts.{format_of};
-ghost use Rattle.panel_boxes.specs.Replies.{by_pattern, fault_reply, filter_command, filter_reply, format_reply, typed_reply};
+ghost use Rattle.panel_boxes.specs.Replies.{by_pattern, fault_reply, filter_command};
+ghost use Rattle.panel_boxes.specs.Replies.{filter_reply, format_reply, typed_reply};
 
 use crate::panel_box::{Asked, PanelReply};
 use mc_text::{NoMemory, Text};

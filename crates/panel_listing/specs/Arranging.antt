@@ -1,5 +1,6 @@
 -- Items by their numbers, and which of them a filter lets through.
-use Rattle.std.specs.Prelude.{◌≡◌, ℕ, ◌<◌, All, Bool, if◌then◌else◌, List, [], ◌∷◌, map, length, slice_index_or, Option, Some, None, is_some, unwrap_or}
+use Rattle.std.specs.Prelude.{◌≡◌, ℕ, ◌<◌, All, Bool, if◌then◌else◌, List, [], ◌∷◌, map}
+use Rattle.std.specs.Prelude.{length, slice_index_or, Option, Some, None, is_some, unwrap_or}
 use Rattle.std.specs.Str.{bytes_eq}
 use Rattle.std.specs.Ordering.{is_lt}
 use Rattle.tree_trait.specs.Answers.{IsAscending}
@@ -41,4 +42,5 @@ behind_name name (first ∷ more) = if bytes_eq first name then Some more else N
 -- of names, those that stand next in a list of some of them
 abbrev pub name_marks : List (List ℕ) → List (List ℕ) → List Bool
 name_marks [] some = []
-name_marks (name ∷ names) some = is_some (behind_name name some) ∷ name_marks names (unwrap_or (behind_name name some) some)
+name_marks (name ∷ names) some =
+    is_some (behind_name name some) ∷ name_marks names (unwrap_or (behind_name name some) some)

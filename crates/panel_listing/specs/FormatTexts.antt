@@ -1,12 +1,15 @@
--- What the text of a format means (own, after mc(1), "Listing format": user). Bytes: tab 9, blank 32, comma 44, colon 58,
--- bar 124.
-use Rattle.std.specs.Prelude.{ℕ, ◌+◌, ◌-◌, ◌*◌, Bool, true, false, not, ◌||◌, ◌&&◌, ◌==◌, nat_le, nat_lt, if◌then◌else◌, List, [], ◌∷◌, ◌++◌, length, drop, codes, Option, Some, None, option_map, Result, Ok, Err}
+-- What the text of a format means (own, after mc(1), "Listing format": user). Bytes: tab 9, blank 32,
+-- comma 44, colon 58, bar 124.
+use Rattle.std.specs.Prelude.{ℕ, ◌+◌, ◌-◌, ◌*◌, Bool, true, false, not, ◌||◌, ◌&&◌, ◌==◌}
+use Rattle.std.specs.Prelude.{nat_le, nat_lt, if◌then◌else◌, List, [], ◌∷◌, ◌++◌, length}
+use Rattle.std.specs.Prelude.{drop, codes, Option, Some, None, option_map, Result, Ok, Err}
 use Rattle.std.specs.List.{before_first, position}
 use Rattle.std.specs.Str.{bytes_eq}
 use Rattle.panel_listing.specs.declared.error.FormatError.{FormatError}
 use Rattle.panel_listing.specs.declared.error.FormatError.TheVariants.{NoSize, UnknownField, BadWidth}
 use Rattle.panel_listing.specs.declared.format.Field.{Field}
-use Rattle.panel_listing.specs.declared.format.Field.TheVariants.{Name, Size, FileSize, TypeLetter, Mtime, Permissions, Mark, Space, Bar}
+use Rattle.panel_listing.specs.declared.format.Field.TheVariants.{Name, Size, FileSize, TypeLetter}
+use Rattle.panel_listing.specs.declared.format.Field.TheVariants.{Mtime, Permissions, Mark, Space, Bar}
 use Rattle.panel_listing.specs.declared.format.Column.{Column}
 
 -- a format: whether the panel has the whole screen, and the columns from the left
@@ -38,7 +41,8 @@ with_byte true at byte (word ∷ words) = record { at = at; text = byte ∷ word
 abbrev pub words_from : ℕ → List ℕ → List Word
 words_from at [] = []
 words_from at (byte ∷ rest) =
-    if separates byte then words_from (at + 1) rest else with_byte (joins byte rest) at byte (words_from (at + 1) rest)
+    if separates byte then words_from (at + 1) rest
+    else with_byte (joins byte rest) at byte (words_from (at + 1) rest)
 
 -- what a word says before its first colon, and behind it
 abbrev pub is_colon : ℕ → Bool
@@ -91,7 +95,8 @@ with_told field at (Some text) = with_width field at (width_in text)
 -- the column that a word means, or why it means none
 abbrev pub column_named : Option Field → Word → Result Column FormatError
 column_named None word = Err (UnknownField word.at)
-column_named (Some field) word = with_told field (word.at + length (before_colon word.text) + 1) (behind_colon word.text)
+column_named (Some field) word =
+    with_told field (word.at + length (before_colon word.text) + 1) (behind_colon word.text)
 
 abbrev pub column_of : Word → Result Column FormatError
 column_of word = column_named (field_named (before_colon word.text)) word
@@ -101,7 +106,8 @@ abbrev pub after_columns : List Column → Result (List Column) FormatError → 
 after_columns prefix (Err fault) = Err fault
 after_columns prefix (Ok columns) = Ok (prefix ++ columns)
 
-abbrev pub and_then_columns : Result Column FormatError → Result (List Column) FormatError → Result (List Column) FormatError
+abbrev pub and_then_columns : Result Column FormatError → Result (List Column) FormatError
+    → Result (List Column) FormatError
 and_then_columns (Err fault) columns = Err fault
 and_then_columns (Ok column) columns = after_columns (column ∷ []) columns
 

@@ -1,5 +1,7 @@
--- What stands under a name of a folder, as a listing has it (stat, POSIX.1-2017; which links lead to folders is our own).
-use Rattle.std.specs.Prelude.{ℕ, Bool, true, false, ◌||◌, nat_lt, if◌then◌else◌, List, ◌∷◌, length, pos, Option, Some, None, Result, Ok, Err}
+-- What stands under a name of a folder, as a listing has it (stat, POSIX.1-2017; which links
+-- lead to folders is our own).
+use Rattle.std.specs.Prelude.{ℕ, Bool, true, false, ◌||◌, nat_lt, if◌then◌else◌, List}
+use Rattle.std.specs.Prelude.{◌∷◌, length, pos, Option, Some, None, Result, Ok, Err}
 use Rattle.mc_text.specs.declared.kind.Kind.{Kind}
 use Rattle.mc_text.specs.declared.kind.Kind.TheVariants.{File, Folder, Link, Other}
 use Rattle.mc_text.specs.Routes.{Route, spelled_route}
@@ -31,7 +33,8 @@ leads_to_folder item = folder_kind item.kind || is_to_folder item.link
 
 -- what a look at a node shows
 abbrev pub seen_in : Node → Seen
-seen_in thing = record { kind = thing.kind; size = length thing.bytes; mode = thing.mode; mtime = thing.mtime }
+seen_in thing =
+    record { kind = thing.kind; size = length thing.bytes; mode = thing.mode; mtime = thing.mtime }
 
 -- and that where the look isn't refused
 abbrev pub seen_unless : Option TreeError → Node → Option Seen
@@ -44,7 +47,8 @@ seen_at s path = seen_unless (refusal_of s (Stat path)) (node s (found_node s pa
 
 -- what a look at a folder's child shows, whose path has at most 4,096 bytes
 abbrev pub child_seen : FileSystem → Route → List ℕ → Option Seen
-child_seen s folder name = if nat_lt 4096 (length (spelled_route (name ∷ folder))) then None else seen_at s (name ∷ folder)
+child_seen s folder name =
+    if nat_lt 4096 (length (spelled_route (name ∷ folder))) then None else seen_at s (name ∷ folder)
 
 -- what stands at the end of a link, followed as far as it goes
 abbrev pub target_seen : FileSystem → Result Route ResolveError → Option Seen
@@ -71,7 +75,14 @@ unseen_item name = record { name = name; kind = Other; link = NotLink; size = 0;
 abbrev pub item_of : List ℕ → (Kind → LinkKind) → Option Seen → Item
 item_of name link None = unseen_item name
 item_of name link (Some seen) =
-    record { name = name; kind = seen.kind; link = link seen.kind; size = seen.size; mode = seen.mode; mtime = seen.mtime }
+    record {
+      name = name;
+      kind = seen.kind;
+      link = link seen.kind;
+      size = seen.size;
+      mode = seen.mode;
+      mtime = seen.mtime;
+    }
 
 -- the item of a folder's child
 abbrev pub child_item : FileSystem → Route → List ℕ → Item

@@ -1,10 +1,13 @@
--- How wide the columns of a format are, and a text in exactly so many columns (own, after mc(1), "Listing format": user).
-use Rattle.std.specs.Prelude.{ℕ, ◌+◌, ◌-◌, ◌/◌, ◌%◌, true, max, nat_lt, if◌then◌else◌, List, [], ◌∷◌, ◌++◌, Option, Some, None, unwrap_or, is_none}
+-- How wide the columns of a format are, and a text in exactly so many columns (own, after mc(1),
+-- "Listing format": user).
+use Rattle.std.specs.Prelude.{ℕ, ◌+◌, ◌-◌, ◌/◌, ◌%◌, true, max, nat_lt, if◌then◌else◌}
+use Rattle.std.specs.Prelude.{List, [], ◌∷◌, ◌++◌, Option, Some, None, unwrap_or, is_none}
 use Rattle.std.specs.List.{concat, sum_by}
 use Rattle.unicode_segmentation.specs.Grapheme.{graphemes}
 use Rattle.mc_text.specs.Fit.{cluster_columns, run_within, blanks}
 use Rattle.panel_listing.specs.declared.format.Field.{Field}
-use Rattle.panel_listing.specs.declared.format.Field.TheVariants.{Name, Size, FileSize, TypeLetter, Mtime, Permissions, Mark, Space, Bar}
+use Rattle.panel_listing.specs.declared.format.Field.TheVariants.{Name, Size, FileSize, TypeLetter}
+use Rattle.panel_listing.specs.declared.format.Field.TheVariants.{Mtime, Permissions, Mark, Space, Bar}
 use Rattle.panel_listing.specs.declared.format.Column.{Column}
 use Rattle.panel_listing.specs.declared.layout.Cell.{Cell}
 
@@ -36,11 +39,13 @@ abbrev pub open_ones : List Column → ℕ
 open_ones [] = 0
 open_ones (column ∷ columns) = (if is_none (width_of column) then 1 else 0) + open_ones columns
 
--- the part of one of those that share what is left: earlier ones get one more where it doesn't divide, each gets at least 1
+-- the part of one of those that share what is left: earlier ones get one more where it doesn't
+-- divide, each gets at least 1
 abbrev pub share : ℕ → ℕ → ℕ → ℕ
 share left count place = max 1 (left / count + (if nat_lt place (left % count) then 1 else 0))
 
--- a column where so many share what is left, and so many of these stand before it; and the number of these behind it
+-- a column where so many share what is left, and so many of these stand before it; and the
+-- number of these behind it
 abbrev pub cell_at : ℕ → ℕ → ℕ → Field → Option ℕ → Cell
 cell_at left count place field (Some width) = record { field = field; width = width }
 cell_at left count place field None = record { field = field; width = share left count place }
@@ -52,7 +57,8 @@ place_after place None = place + 1
 abbrev pub cells_from : ℕ → ℕ → ℕ → List Column → List Cell
 cells_from left count place [] = []
 cells_from left count place (column ∷ columns) =
-    cell_at left count place column.field (width_of column) ∷ cells_from left count (place_after place (width_of column)) columns
+    cell_at left count place column.field (width_of column)
+    ∷ cells_from left count (place_after place (width_of column)) columns
 
 -- the columns of a row that is so wide, each with its width
 unfoldable pub cells_in : ℕ → List Column → List Cell

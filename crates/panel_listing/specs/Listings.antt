@@ -1,5 +1,6 @@
 -- The listing of a folder (own, after mc(1), "Directory Panels").
-use Rattle.std.specs.Prelude.{◌≡◌, ℕ, zero, suc, Bool, true, false, List, [], ◌∷◌, ◌++◌, map, Option, Some, None, if◌then◌else◌}
+use Rattle.std.specs.Prelude.{◌≡◌, ℕ, zero, suc, Bool, true, false, List, []}
+use Rattle.std.specs.Prelude.{◌∷◌, ◌++◌, map, Option, Some, None, if◌then◌else◌}
 use Rattle.mc_text.specs.Routes.{Route}
 use Rattle.tree_trait.specs.declared.file_system.FileSystem.{FileSystem}
 use Rattle.tree_trait.specs.Change.{found_node}
@@ -7,8 +8,8 @@ use Rattle.tree_trait.specs.Answers.{IsAscending, IsListing}
 use Rattle.panel_listing.specs.Items.{child_item}
 use Rattle.panel_listing.specs.declared.item.Item.{Item}
 
--- a listing: whether `..` is its first row, the items of the folder, those that are shown, and how many things have names
--- that are not UTF-8
+-- a listing: whether `..` is its first row, the items of the folder, those that are shown, and how many
+-- things have names that are not UTF-8
 pub record Listed : Type 0 where
   pub has_parent : Bool
   pub items : List Item

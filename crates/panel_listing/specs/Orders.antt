@@ -1,5 +1,7 @@
--- Which items of a folder a panel shows, and in which order (own, after mc(1), "Options", "Directory Panels" and "Filter").
-use Rattle.std.specs.Prelude.{ℕ, Bool, true, false, not, ◌||◌, ◌&&◌, ◌==◌, if◌then◌else◌, List, [], ◌∷◌, filter, Option, Some, None, unwrap_or}
+-- Which items of a folder a panel shows, and in which order (own, after mc(1), "Options",
+-- "Directory Panels" and "Filter").
+use Rattle.std.specs.Prelude.{ℕ, Bool, true, false, not, ◌||◌, ◌&&◌, ◌==◌, if◌then◌else◌}
+use Rattle.std.specs.Prelude.{List, [], ◌∷◌, filter, Option, Some, None, unwrap_or}
 use Rattle.std.specs.Option.{option_map_or}
 use Rattle.std.specs.Ordering.{nat_cmp, int_cmp, ordering_then}
 use Rattle.std.specs.declared.cmp.Ordering.{Ordering}
@@ -22,7 +24,8 @@ is_hidden (first ∷ rest) = first == 46
 abbrev pub passes : Option PatternText → List ℕ → Bool
 passes filter name = option_map_or (λ pattern. is_found pattern name) filter true
 
--- an item is shown whose name the filter lets through, or not: hidden ones where they are wanted, folders in any case
+-- an item is shown whose name the filter lets through, or not: hidden ones where they are
+-- wanted, folders in any case
 abbrev pub shows : Wish → Item → Bool → Bool
 shows wish item passes = (wish.hidden || not (is_hidden item.name)) && (leads_to_folder item || passes)
 
@@ -43,8 +46,8 @@ abbrev pub extension : List ℕ → List ℕ
 extension [] = []
 extension (first ∷ rest) = unwrap_or (behind_last_dot rest) []
 
--- How two items stand by what an order looks at. A tree gives the names of a folder in their own order, so unsorted items
--- stand by their names.
+-- How two items stand by what an order looks at. A tree gives the names of a folder in their own order, so
+-- unsorted items stand by their names.
 abbrev pub key_cmp : Order → Item → Item → Ordering
 key_cmp Name a b = Equal
 key_cmp Extension a b = name_cmp (extension a.name) (extension b.name)
@@ -68,8 +71,8 @@ within_cmp wish a b = if wish.reverse then order_cmp wish.order b a else order_c
 abbrev pub item_cmp : Wish → Item → Item → Ordering
 item_cmp wish a b = ordering_then (nat_cmp (group a) (group b)) (within_cmp wish a b)
 
--- These are the shown ones of a folder's items, each as often as it is there, in the strict order that is wished for: each
--- comes before all that stand behind it, and no two tie.
+-- These are the shown ones of a folder's items, each as often as it is there, in the strict order that is
+-- wished for: each comes before all that stand behind it, and no two tie.
 pub record AreArranged (wish : Wish) (items shown : List Item) : Type 0 where
   pub kept : IsPermutation (filter (is_shown wish) items) shown
   pub ordered : IsStrictlySortedBy (item_cmp wish) shown

@@ -1,6 +1,7 @@
--- What a row shows (own, after mc(1), "Listing format": user). Bytes: blank 32, `!` 33, `*` 42, `/` 47, `?` 63, `@` 64, bar
--- 124, `~` 126.
-use Rattle.std.specs.Prelude.{ℕ, ◌-◌, Bool, false, ◌==◌, if◌then◌else◌, List, [], ◌∷◌, ◌++◌, length, map, take, drop, codes, Option, Some, None, bit_and}
+-- What a row shows (own, after mc(1), "Listing format": user). Bytes: blank 32, `!` 33, `*` 42, `/` 47, `?`
+-- 63, `@` 64, bar 124, `~` 126.
+use Rattle.std.specs.Prelude.{ℕ, ◌-◌, Bool, false, ◌==◌, if◌then◌else◌, List, [], ◌∷◌, ◌++◌}
+use Rattle.std.specs.Prelude.{length, map, take, drop, codes, Option, Some, None, bit_and}
 use Rattle.std.specs.FinSet as set
 use Rattle.mc_text.specs.declared.kind.Kind.{Kind}
 use Rattle.mc_text.specs.declared.kind.Kind.TheVariants.{File, Folder, Link, Other}
@@ -15,7 +16,8 @@ use Rattle.panel_listing.specs.FormatTexts.{RowFormat}
 use Rattle.panel_listing.specs.Layouts.{cells_in, clipped_text}
 use Rattle.panel_listing.specs.Listings.{Listed, rows_in}
 use Rattle.panel_listing.specs.declared.format.Field.{Field}
-use Rattle.panel_listing.specs.declared.format.Field.TheVariants.{Name, Size, FileSize, TypeLetter, Mtime, Permissions, Mark, Space, Bar}
+use Rattle.panel_listing.specs.declared.format.Field.TheVariants.{Name, Size, FileSize, TypeLetter}
+use Rattle.panel_listing.specs.declared.format.Field.TheVariants.{Mtime, Permissions, Mark, Space, Bar}
 use Rattle.panel_listing.specs.declared.item.LinkKind.{LinkKind}
 use Rattle.panel_listing.specs.declared.item.LinkKind.TheVariants.{NotLink, ToFolder, ToThing, Stale}
 use Rattle.panel_listing.specs.declared.item.Item.{Item}
@@ -52,7 +54,8 @@ size_told width (Some item) = size_text item.size width
 
 abbrev pub file_size_told : ℕ → Option Item → List ℕ
 file_size_told width None = codes "UP--DIR"
-file_size_told width (Some item) = if folder_kind item.kind then codes "SUB-DIR" else size_text item.size width
+file_size_told width (Some item) =
+    if folder_kind item.kind then codes "SUB-DIR" else size_text item.size width
 
 abbrev pub mtime_told : ℕ → Option Item → List ℕ
 mtime_told now None = []
@@ -84,7 +87,8 @@ field_text Bar width now tagged item = 124 ∷ []
 abbrev pub cells_text : ℕ → Bool → Option Item → List Cell → List ℕ
 cells_text now tagged item [] = []
 cells_text now tagged item (cell ∷ cells) =
-    fitted_text (field_text cell.field cell.width now tagged item) cell.width ++ cells_text now tagged item cells
+    fitted_text (field_text cell.field cell.width now tagged item) cell.width
+    ++ cells_text now tagged item cells
 
 -- an item is tagged; `..` never is
 abbrev pub is_tagged : TagSet → Option Item → Bool
@@ -93,12 +97,14 @@ is_tagged tags (Some item) = set.contains tags item.name
 
 -- the row of an item
 abbrev pub row_text : Window → TagSet → List Cell → Option Item → List ℕ
-row_text window tags cells item = clipped_text (cells_text window.now (is_tagged tags item) item cells) window.columns
+row_text window tags cells item =
+    clipped_text (cells_text window.now (is_tagged tags item) item cells) window.columns
 
 -- the rows that a window shows of a listing
 abbrev pub rows_text : Listed → TagSet → RowFormat → Window → List (List ℕ)
 rows_text listing tags format window =
-    map (row_text window tags (cells_in window.columns format.columns)) (take window.count (drop window.first (rows_in listing)))
+    map (row_text window tags (cells_in window.columns format.columns))
+    (take window.count (drop window.first (rows_in listing)))
 
 -- ---- the heading
 

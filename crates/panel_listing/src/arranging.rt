@@ -1,10 +1,12 @@
 //! Which items are shown, and in which order. What is moved are their numbers, never their names.
-ghost use Rattle.std.specs.Prelude.{◌≡◌, ◌<◌, ◌++◌, ◌∷◌, [], All, true, map, option_map, filter, replicate, length, if◌then◌else◌, IfOk, OnOk};
+ghost use Rattle.std.specs.Prelude.{◌≡◌, ◌<◌, ◌++◌, ◌∷◌, [], All, true, map, option_map};
+ghost use Rattle.std.specs.Prelude.{filter, replicate, length, if◌then◌else◌, IfOk, OnOk};
 ghost use Rattle.std.specs.List.Sorted.{IsPermutation, IsSortedBy};
 ghost use Rattle.tree_trait.specs.Answers.{IsAscending};
 ghost use Rattle.tagging.specs.Patterns.{is_found};
 ghost use Rattle.panel_listing.specs.Orders.{is_shown, passes, AreArranged};
-ghost use Rattle.panel_listing.specs.Arranging.{names_of, name_marks, behind_name, items_at, item_in, comes_before, IsNumberOf};
+ghost use Rattle.panel_listing.specs.Arranging.{names_of, name_marks, behind_name, items_at};
+ghost use Rattle.panel_listing.specs.Arranging.{item_in, comes_before, IsNumberOf};
 
 use crate::item::Item;
 use crate::wish::Wish;
@@ -19,8 +21,9 @@ pub struct Numbered<'a> {
     item: &'a Item,
 }
 
-/// The numbers of the items that are shown, in the order that is wished for. No two of them tie: the names of a folder differ,
-/// and ties go by them. The time grows as the number of the shown ones times its logarithm; a pattern is read once.
+/// The numbers of the items that are shown, in the order that is wished for. No two of them tie: the names
+/// of a folder differ, and ties go by them. The time grows as the number of the shown ones times its
+/// logarithm; a pattern is read once.
 pub fn arranged(alloc: Global, items: &[Item], wish: &Wish) -> Result<Places, NoMemory>
     requires { IsAscending (names_of items.now) }
     ensures within { IfOk result (λ shown. All (λ number. number < length items.now) shown) }
@@ -103,7 +106,8 @@ fn all_pass(alloc: Global, count: usize) -> Result<Vec<bool>, NoMemory>
 
 /// Whether a pattern finds each item's name. It is read once for them all.
 fn found(alloc: Global, items: &[Item], pattern: &Pattern) -> Result<Vec<bool>, NoMemory>
-    ensures { IfOk result (λ passing. passing.items ≡ map (λ item. is_found pattern.now item.name) items.now) }
+    ensures { IfOk result
+        (λ passing. passing.items ≡ map (λ item. is_found pattern.now item.name) items.now) }
 {
     let names = names_of(alloc, items)?;
     let found = pattern.found_among(alloc, &names)?;

@@ -2,8 +2,8 @@
 use mc_text::NoMemory;
 use thiserror::Error;
 
-/// Why a text is no format, with the byte where the fault stands: `NoSize` always the first, `UnknownField` the first of
-/// the field, `BadWidth` the one behind the colon.
+/// Why a text is no format, with the byte where the fault stands: `NoSize` always the first, `UnknownField`
+/// the first of the field, `BadWidth` the one behind the colon.
 #[derive(Clone, Copy, Debug, Drop, Error, PartialEq, Eq)]
 pub enum FormatError {
     #[error("neither half nor full at byte {0}")]

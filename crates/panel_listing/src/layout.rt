@@ -1,6 +1,7 @@
 //! How wide the columns of a format are, and a row cut to its panel.
 ghost use Rattle.std.specs.Prelude.{◌≡◌, ◌-◌, ◌<◌, ◌≤◌, None, IfOk, IfSome};
-ghost use Rattle.panel_listing.specs.Layouts.{usual_width, width_of, taken_columns, open_ones, share, cell_at, cells_in, clipped_text};
+ghost use Rattle.panel_listing.specs.Layouts.{usual_width, width_of, taken_columns, open_ones};
+ghost use Rattle.panel_listing.specs.Layouts.{share, cell_at, cells_in, clipped_text};
 
 use crate::format::{Column, Field};
 use mc_text::{NoMemory, Text, push_blanks, push_run};
@@ -13,7 +14,8 @@ pub struct Cell {
     pub width: usize,
 }
 
-/// The columns of a row that is so wide. Names that tell no width share what the others leave; each gets at least 1.
+/// The columns of a row that is so wide. Names that tell no width share what the others
+/// leave; each gets at least 1.
 #[tactic(auto, unfolding(crate::specs::Layouts::cells_in))]
 pub fn cells_in(alloc: Global, row: usize, columns: &[Column]) -> Result<Vec<Cell>, NoMemory>
     ensures { IfOk result (λ cells. cells.items ≡ cells_in row columns.now) }

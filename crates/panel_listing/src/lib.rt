@@ -1,4 +1,5 @@
-//! What a panel shows of a folder: its items in an order, the columns of a format, and the rows on the screen.
+//! What a panel shows of a folder: its items in an order, the columns of a format,
+//! and the rows on the screen.
 #![tactic(auto)]
 
 mod arranging;

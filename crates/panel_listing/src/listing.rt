@@ -1,5 +1,6 @@
 //! The listing of a folder.
-ghost use Rattle.std.specs.Prelude.{◌≡◌, ◌<◌, ◌≤◌, None, MatchOption, length, option_copied, slice_index_or, IfOk, OnOk, OnErr};
+ghost use Rattle.std.specs.Prelude.{◌≡◌, ◌<◌, ◌≤◌, None, MatchOption, length};
+ghost use Rattle.std.specs.Prelude.{option_copied, slice_index_or, IfOk, OnOk, OnErr};
 ghost use Rattle.tree_trait.specs.Answers.{IsAscending};
 ghost use Rattle.panel_listing.specs.Arranging.{AreSound, items_at, names_of};
 ghost use Rattle.panel_listing.specs.Orders.{AreArranged};
@@ -12,11 +13,12 @@ use mc_text::{NoMemory, Places};
 use std::alloc::Global;
 use std::marker::Model;
 
-/// What a folder holds, as it was read, and which of it is shown, in which order. The first row is `..`, where the folder
-/// isn't the root, and each other row an item.
+/// What a folder holds, as it was read, and which of it is shown, in which order. The first row is `..`,
+/// where the folder isn't the root, and each other row an item.
 ///
-/// The items stay where they were read: another order or filter moves their numbers alone, and takes a time that grows as
-/// the number of shown items times its logarithm. A look at a row takes the same time for each.
+/// The items stay where they were read: another order or filter moves their numbers alone, and
+/// takes a time that grows as the number of shown items times its logarithm. A look at a row
+/// takes the same time for each.
 #[derive(Drop)]
 pub struct Listing {
     has_parent: bool,
@@ -96,7 +98,8 @@ impl Listing {
     /// Which items would be shown by another wish, and in which order. The listing stays as it is.
     pub fn shown_by(&self, alloc: Global, wish: &Wish) -> Result<ShownItems, NoMemory>
         ensures sound { IfOk result (AreSound self.now.items) }
-        ensures arranged { IfOk result (λ shown. AreArranged wish.now self.now.items (items_at self.now.items shown)) }
+        ensures arranged { IfOk result
+            (λ shown. AreArranged wish.now self.now.items (items_at self.now.items shown)) }
     {
         let numbers = arranged(alloc, self.items.as_slice(), wish)?;
         Ok(ShownItems { numbers })

@@ -4,7 +4,8 @@ ghost use Rattle.tree_trait.specs.Change.{current};
 ghost use Rattle.tree_trait.specs.Answers.{IfKnown, HasCause, count_after};
 ghost use Rattle.resolving.specs.declared.walking.Wanted.TheVariants.{AnyThing};
 ghost use Rattle.resolving.specs.Resolution.{resolved_path};
-ghost use Rattle.panel_listing.specs.Items.{child_item, child_seen, item_of, unseen_item, link_of, link_to, seen_at, target_seen};
+ghost use Rattle.panel_listing.specs.Items.{child_item, child_seen, item_of, unseen_item};
+ghost use Rattle.panel_listing.specs.Items.{link_of, link_to, seen_at, target_seen};
 
 use crate::item::{Item, LinkKind};
 use mc_text::{Kind, Name, Path, PathError};
@@ -21,8 +22,8 @@ pub struct Seen {
     pub mtime: i64,
 }
 
-/// Looks at what stands under a name of a folder. Where the look is refused, the item says no more than the name; only a
-/// fault and want of memory are errors.
+/// Looks at what stands under a name of a folder. Where the look is refused, the item says no more than the
+/// name; only a fault and want of memory are errors.
 pub fn look_at_child<T: ReadTree>(
     alloc: Global,
     tree: &mut T,
@@ -146,7 +147,8 @@ fn follow<T: ReadTree>(
     name: &Name,
 ) -> Result<LinkKind, TreeError>
     ensures answer { IfKnown (T.contents tree.old) (λ log. IfOk result (λ link.
-        link ≡ link_to (target_seen (current log) (resolved_path (current log) AnyThing folder.now name.now)))) }
+        link
+        ≡ link_to (target_seen (current log) (resolved_path (current log) AnyThing folder.now name.now)))) }
     ensures refused { IfErr result (λ e. (e ≡ TreeError.Memory) ⊎ (e ≡ TreeError.Fault)) }
     ensures same { T.contents tree.new ≡ T.contents tree.old }
     ensures cause { HasCause TreeError.Fault (T.fault_count tree.old) (T.fault_count tree.new) result }

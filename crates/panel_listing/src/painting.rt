@@ -1,7 +1,8 @@
 //! The heading of a listing and its rows.
 ghost use Rattle.std.specs.Prelude.{◌≡◌, ◌++◌, string_bytes, IfOk, OnOk, option_copied};
 ghost use Rattle.mc_text.specs.Fit.{fitted_text};
-ghost use Rattle.panel_listing.specs.RowTexts.{field_text, cells_text, labels_text, label, is_tagged, row_text, rows_text, heading_text};
+ghost use Rattle.panel_listing.specs.RowTexts.{field_text, cells_text, labels_text, label};
+ghost use Rattle.panel_listing.specs.RowTexts.{is_tagged, row_text, rows_text, heading_text};
 
 use crate::format::Format;
 use crate::item::Item;
@@ -13,7 +14,8 @@ use std::alloc::Global;
 use std::convert::AsStr;
 use tagging::Tags;
 
-/// Which rows of a listing are shown: so many from the first one on, in so many columns, at this second since 1970.
+/// Which rows of a listing are shown: so many from the first one on, in so many columns,
+/// at this second since 1970.
 #[derive(Clone, Copy, Debug)]
 pub struct Window {
     pub columns: usize,

@@ -1,8 +1,11 @@
 //! Reading a format.
-ghost use Rattle.std.specs.Prelude.{◌≡◌, ◌≢◌, ◌+◌, ◌<◌, ◌≤◌, ◌^◌, ◌==◌, length, option_map, Ok, Err, IfOk, IfErr, IfSome};
+ghost use Rattle.std.specs.Prelude.{◌≡◌, ◌≢◌, ◌+◌, ◌<◌, ◌≤◌, ◌^◌, ◌==◌, length};
+ghost use Rattle.std.specs.Prelude.{option_map, Ok, Err, IfOk, IfErr, IfSome};
 ghost use Rattle.std.specs.List.{position};
 ghost use Rattle.std.specs.Str.{bytes_eq};
-ghost use Rattle.panel_listing.specs.FormatTexts.{format_of, words_from, column_of, columns_of, field_named, size_named, width_in, number_from, is_colon, before_colon, behind_colon};
+ghost use Rattle.panel_listing.specs.FormatTexts.{format_of, words_from, column_of, columns_of};
+ghost use Rattle.panel_listing.specs.FormatTexts.{field_named, size_named, width_in, number_from};
+ghost use Rattle.panel_listing.specs.FormatTexts.{is_colon, before_colon, behind_colon};
 ghost use Rattle.panel_listing.specs.Words.{word_in};
 
 use crate::error::FormatError;
@@ -12,8 +15,9 @@ use mc_text::NoMemory;
 use std::alloc::Global;
 
 impl Format {
-    /// Reads a format: `half` or `full`, then the fields of its columns. Blanks, tabs and commas stand between them, and a
-    /// bar is a field by itself. Behind a field may stand a colon and its width, from 1 to 255. The first fault decides.
+    /// Reads a format: `half` or `full`, then the fields of its columns. Blanks, tabs and commas stand
+    /// between them, and a bar is a field by itself. Behind a field may stand a colon and its width, from 1
+    /// to 255. The first fault decides.
     pub fn parse(alloc: Global, text: &str) -> Result<Format, FormatError>
         ensures read { IfOk result (λ format. format_of text.now ≡ Ok format) }
         ensures refused { IfErr result (λ e. e ≢ FormatError.Memory → format_of text.now ≡ Err e) }
@@ -47,7 +51,8 @@ fn size_named(name: &[u8]) -> Option<bool>
 fn columns_of(alloc: Global, at: usize, text: &[u8]) -> Result<Vec<Column>, FormatError>
     requires { at + length text.now < 2 ^ 64 }
     ensures read { IfOk result (λ columns. columns_of (words_from at text.now) ≡ Ok columns.items) }
-    ensures refused { IfErr result (λ e. e ≢ FormatError.Memory → columns_of (words_from at text.now) ≡ Err e) }
+    ensures refused { IfErr result
+        (λ e. e ≢ FormatError.Memory → columns_of (words_from at text.now) ≡ Err e) }
 {
     let mut columns = Vec::new(alloc);
     let mut from = at;

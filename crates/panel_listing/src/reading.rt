@@ -16,9 +16,9 @@ use mc_text::{Name, NoMemory, Path};
 use std::alloc::{AllocError, Global};
 use tree_trait::{ReadTree, TreeError};
 
-/// Reads a folder, looks at each of its children, and where that is a link at what it leads to. Refused as `list` of the
-/// folder is, or by a fault or want of memory in a later look; a child that can't be looked at for another cause is listed
-/// with zeros.
+/// Reads a folder, looks at each of its children, and where that is a link at what it leads to. Refused as
+/// `list` of the folder is, or by a fault or want of memory in a later look; a child that can't be looked
+/// at for another cause is listed with zeros.
 ///
 /// One look for each child, and for each link a few more; then the time of `Listing::arrange`.
 pub fn read_listing<T: ReadTree>(

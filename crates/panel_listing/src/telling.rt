@@ -1,7 +1,9 @@
 //! What the fields of a row say of an item, or of `..`, which is none.
 ghost use Rattle.std.specs.Prelude.{◌≡◌, ◌∷◌, [], IfOk, option_copied};
 ghost use Rattle.std.specs.Str.{IsUtf8};
-ghost use Rattle.panel_listing.specs.RowTexts.{link_letter, type_letter, name_told, type_told, size_told, file_size_told, mtime_told, permissions_told, at_right, field_text, label};
+ghost use Rattle.panel_listing.specs.RowTexts.{link_letter, type_letter, name_told, type_told};
+ghost use Rattle.panel_listing.specs.RowTexts.{size_told, file_size_told, mtime_told};
+ghost use Rattle.panel_listing.specs.RowTexts.{permissions_told, at_right, field_text, label};
 
 use crate::format::Field;
 use crate::item::{Item, LinkKind};
@@ -18,7 +20,8 @@ pub fn field_text(
     tagged: bool,
     item: Option<&Item>,
 ) -> Result<Text, NoMemory>
-    ensures { IfOk result (λ text. text ≡ field_text cell.field cell.width now tagged (option_copied item.entry)) }
+    ensures { IfOk result
+        (λ text. text ≡ field_text cell.field cell.width now tagged (option_copied item.entry)) }
 {
     match cell.field {
         Field::Name => drawn(alloc, name_told(item)),

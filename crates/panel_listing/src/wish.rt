@@ -1,13 +1,14 @@
 //! What a person wants to see of a folder, and in which order.
 ghost use Rattle.std.specs.Prelude.{◌≡◌, [], unwrap_or};
-ghost use Rattle.panel_listing.specs.Orders.{is_hidden, shows, behind_last_dot, extension, key_cmp, order_cmp, group, within_cmp, item_cmp};
+ghost use Rattle.panel_listing.specs.Orders.{is_hidden, shows, behind_last_dot, extension};
+ghost use Rattle.panel_listing.specs.Orders.{key_cmp, order_cmp, group, within_cmp, item_cmp};
 
 use crate::item::Item;
 use std::cmp::Ordering;
 use tagging::Pattern;
 
-/// By what the items of a group stand; those that tie stand by their names. `Unsorted` is as the tree gave them, which
-/// is in the order of their names.
+/// By what the items of a group stand; those that tie stand by their names. `Unsorted` is as the tree gave
+/// them, which is in the order of their names.
 #[derive(Clone, Copy, Debug, PartialEq, Eq)]
 pub enum Order {
     Name,
@@ -17,8 +18,8 @@ pub enum Order {
     Unsorted,
 }
 
-/// What is to be shown: in which order, turned round or not, with the hidden names (those that begin with a dot) or
-/// without, and which files by name. The filter hides no folder and no link to one.
+/// What is to be shown: in which order, turned round or not, with the hidden names (those that begin with a
+/// dot) or without, and which files by name. The filter hides no folder and no link to one.
 #[derive(Debug, Drop)]
 pub struct Wish {
     pub order: Order,

@@ -13,7 +13,8 @@ pub struct Word<'a> {
 /// The first word of a text whose first byte stands at this place, and what is behind it.
 pub fn next_word<'a>(at: usize, text: &'a [u8]) -> Option<(Word<'a>, &'a [u8])>
     requires { at + length text.now < 2 ^ 64 }
-    ensures { MatchOption result (words_from at text.now ≡ []) (λ (word, behind). IsNextWord at text.now word behind.now) }
+    ensures { MatchOption result (words_from at text.now ≡ [])
+        (λ (word, behind). IsNextWord at text.now word behind.now) }
 {
     let mut from = at;
     let mut rest = text;

@@ -1,4 +1,5 @@
--- What each command makes of the panels (mc(1), "Directory Panels", "Keys", "Menu Bar"; own where mc has a mouse or a menu).
+-- What each command makes of the panels (mc(1), "Directory Panels", "Keys", "Menu Bar"; own where
+-- mc has a mouse or a menu).
 use Rattle.std.specs.Prelude.{◌≡◌, ℕ, not, Result, Ok, Err, ⊤}
 use Rattle.tree_trait.specs.Refusals.{holder}
 use Rattle.tree_trait.specs.Change.{CallLog}
@@ -15,7 +16,11 @@ use Rattle.panel_state.specs.Selections.{toggled_current, selected_panel, unsele
 use Rattle.panel_state.specs.Arrangements.{arranged_again, HasSameItems}
 use Rattle.panel_state.specs.Comparisons.{compared_panel}
 use Rattle.panel_pair.specs.declared.command.PanelCommand.{PanelCommand}
-use Rattle.panel_pair.specs.declared.command.PanelCommand.TheVariants.{Move, SwitchPanel, SwapPanels, Enter, ReadAgain, Back, Forward, GoTo, Toggle, Invert, Select, Unselect, Compare, Arrange, ShowColumns, ShowBrief, ToggleHidden, SwitchPatterns}
+use Rattle.panel_pair.specs.declared.command.PanelCommand.TheVariants.{Move, SwitchPanel, SwapPanels, Enter}
+use Rattle.panel_pair.specs.declared.command.PanelCommand.TheVariants.{ReadAgain, Back, Forward, GoTo, Toggle}
+use Rattle.panel_pair.specs.declared.command.PanelCommand.TheVariants.{Invert, Select, Unselect, Compare}
+use Rattle.panel_pair.specs.declared.command.PanelCommand.TheVariants.{Arrange, ShowColumns, ShowBrief}
+use Rattle.panel_pair.specs.declared.command.PanelCommand.TheVariants.{ToggleHidden, SwitchPatterns}
 use Rattle.panel_pair.specs.Pairs.{PairState, opposite, other_kind, with_current}
 
 -- Tab makes the other panel current; it stays on its side
@@ -28,11 +33,15 @@ swapped_panels pair = record pair { current = pair.other; other = pair.current }
 
 -- C-x d tags in both panels the files that differ
 abbrev pub compared_pair : PairState → PairState
-compared_pair pair = record pair { current = compared_panel pair.other pair.current; other = compared_panel pair.current pair.other }
+compared_pair pair = record pair {
+  current = compared_panel pair.other pair.current;
+  other = compared_panel pair.current pair.other;
+}
 
 -- the current panel goes to a folder, or there is none to go to; the rest stays
 abbrev pub Goes : (PanelState → Going → Type 0) → PairState → PairState → Type 0
-Goes leads before after = ((going : Going) × leads after.current going) × (after ≡ with_current after.current before)
+Goes leads before after =
+    ((going : Going) × leads after.current going) × (after ≡ with_current after.current before)
 
 -- both panels show their items by another wish; of each it is the same items as before
 pub record BothArrange (arrangement : Arrangement) (page : ℕ) (before after : PairState) : Type 0 where
@@ -49,21 +58,27 @@ CommandDone (Move base) page before after = after ≡ with_current (moved_by pag
 CommandDone SwitchPanel page before after = after ≡ switched_panels before
 CommandDone SwapPanels page before after = after ≡ swapped_panels before
 CommandDone Enter page before after = Goes (Enters (way_of before.current) page before.current) before after
-CommandDone ReadAgain page before after = after ≡ with_current (read_again page after.current.listing before.current) before
+CommandDone ReadAgain page before after =
+    after ≡ with_current (read_again page after.current.listing before.current) before
 CommandDone Back page before after = Goes (Turns Earlier page before.current) before after
 CommandDone Forward page before after = Goes (Turns Later page before.current) before after
-CommandDone (GoTo path) page before after = after ≡ with_current (gone_to_path page path after.current.listing before.current) before
+CommandDone (GoTo path) page before after =
+    after ≡ with_current (gone_to_path page path after.current.listing before.current) before
 CommandDone Toggle page before after = after ≡ with_current (toggled_current page before.current) before
 CommandDone Invert page before after = after ≡ with_current (inverted_files before.current) before
-CommandDone (Select pattern) page before after = after ≡ with_current (selected_panel pattern before.current) before
-CommandDone (Unselect pattern) page before after = after ≡ with_current (unselected_panel pattern before.current) before
+CommandDone (Select pattern) page before after =
+    after ≡ with_current (selected_panel pattern before.current) before
+CommandDone (Unselect pattern) page before after =
+    after ≡ with_current (unselected_panel pattern before.current) before
 CommandDone Compare page before after = after ≡ compared_pair before
 CommandDone (Arrange arrangement) page before after =
     HasSameItems before.current.listing after.current.listing
     × (after ≡ with_current (arranged_again page arrangement after.current.listing before.current) before)
-CommandDone (ShowColumns format) page before after = after ≡ with_current (with_format page format before.current) before
+CommandDone (ShowColumns format) page before after =
+    after ≡ with_current (with_format page format before.current) before
 CommandDone ShowBrief page before after = after ≡ with_current (with_brief page before.current) before
-CommandDone ToggleHidden page before after = BothArrange (Hidden (not before.current.wish.hidden)) page before after
+CommandDone ToggleHidden page before after =
+    BothArrange (Hidden (not before.current.wish.hidden)) page before after
 CommandDone SwitchPatterns page before after = after ≡ record before { patterns = other_kind before.patterns }
 
 -- a command that reads nothing is refused for want of memory alone

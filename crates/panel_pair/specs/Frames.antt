@@ -32,15 +32,16 @@ look_of mark.Current = Reverse
 abbrev pub items_from : PanelState → Bool → ℕ → List (List ℕ) → List ListingLine
 items_from p is_current row [] = []
 items_from p is_current row (text ∷ texts) =
-    record { text = text; look = look_of (mark_of row is_current p) } ∷ items_from p is_current (row + 1) texts
+    record { text = text; look = look_of (mark_of row is_current p) }
+    ∷ items_from p is_current (row + 1) texts
 
 -- brief has two columns of items
 abbrev pub shape_of : Layout → Shape
 shape_of Columns = shape.Full
 shape_of Brief = shape.Brief
 
--- what a panel shows: its folder, the heading, its rows from the first on the screen on, the current name, and how many names
--- can't be shown
+-- what a panel shows: its folder, the heading, its rows from the first on the screen on, the current name,
+-- and how many names can't be shown
 abbrev pub pane_of : View → Bool → PanelState → Pane
 pane_of view is_current p =
     record {
@@ -53,7 +54,8 @@ pane_of view is_current p =
       is_current = is_current;
     }
 
--- how many rows of a column are on a screen of so many lines, and how many columns stand within the walls of a panel
+-- how many rows of a column are on a screen of so many lines, and how many columns stand
+-- within the walls of a panel
 abbrev pub page_of : ℕ → ℕ
 page_of lines = lines - 6
 
@@ -81,9 +83,11 @@ abbrev pub is_right : Side → Bool
 is_right Left = false
 is_right Right = true
 
--- The left panel has half of the columns, rounded down, and the right one the rest; or the current one has the whole screen.
+-- The left panel has half of the columns, rounded down, and the right one the rest; or the current
+-- one has the whole screen.
 abbrev pub panes_of : FrameSize → PairState → Panes
 panes_of size pair =
-    if has_whole_screen pair.current.format then Whole (pane_of (view_in size size.columns) true pair.current) else
+    if has_whole_screen pair.current.format
+    then Whole (pane_of (view_in size size.columns) true pair.current) else
     Both (pane_of (view_in size (size.columns / 2)) (is_left pair.side) (left_panel pair))
     (pane_of (view_in size (size.columns - size.columns / 2)) (is_right pair.side) (right_panel pair))

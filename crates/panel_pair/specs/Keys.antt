@@ -4,7 +4,9 @@ use Rattle.key_screen.specs.declared.keys.Key.{Key}
 use Rattle.key_screen.specs.declared.keys.Base.{Base}
 use Rattle.key_screen.specs.declared.keys.Base.TheVariants as key
 use Rattle.panel_pair.specs.declared.command.PanelCommand.{PanelCommand}
-use Rattle.panel_pair.specs.declared.command.PanelCommand.TheVariants.{Move, SwitchPanel, SwapPanels, Enter, ReadAgain, Back, Forward, Toggle, Invert, ToggleHidden}
+use Rattle.panel_pair.specs.declared.command.PanelCommand.TheVariants.{Move, SwitchPanel, SwapPanels}
+use Rattle.panel_pair.specs.declared.command.PanelCommand.TheVariants.{Enter, ReadAgain, Back, Forward}
+use Rattle.panel_pair.specs.declared.command.PanelCommand.TheVariants.{Toggle, Invert, ToggleHidden}
 
 -- C-r, C-t, C-u
 abbrev pub control_command : ℕ → Option PanelCommand

@@ -33,4 +33,5 @@ pub record ShowsLooks (log : CallLog) (unread : Unread) (before after : PairStat
 
 -- where what was read is as a tree has it, the panels show that afterwards
 abbrev pub TakesReread : Reread → PairState → PairState → Type 0
-TakesReread reread before after = (log : CallLog) → ShowsReread log before reread → ShowsLooks log (unread_of reread) before after
+TakesReread reread before after = (log : CallLog) → ShowsReread log before reread
+    → ShowsLooks log (unread_of reread) before after

@@ -14,16 +14,19 @@ use Rattle.panel_pair.specs.Pairs.{PairState}
 
 -- the folder that a path leads to is shown as it was read, or the path leads to none
 abbrev pub ShowsPath : CallLog → Route → Result PanelState ResolveError → Type 0
-ShowsPath log path result = ShowsResolved log (resolved_path (current log) FolderAlone [] (path_text path)) result
+ShowsPath log path result =
+    ShowsResolved log (resolved_path (current log) FolderAlone [] (path_text path)) result
 
 -- the folder of a side is refused; the right one is read only where the left one is shown
 abbrev pub RefusesSide : CallLog → Route → Route → Side → ResolveError → Type 0
 RefusesSide log left right Left e = ShowsPath log left (Err e)
-RefusesSide log left right Right e = ((panel : PanelState) × ShowsPath log left (Ok panel)) × ShowsPath log right (Err e)
+RefusesSide log left right Right e =
+    ((panel : PanelState) × ShowsPath log left (Ok panel)) × ShowsPath log right (Err e)
 
 -- both panels show their folders, or that of a side is refused
 abbrev pub OpensBoth : CallLog → Route → Route → Result PairState Unopened → Type 0
-OpensBoth log left right (Ok pair) = ShowsPath log left (Ok pair.current) × ShowsPath log right (Ok pair.other)
+OpensBoth log left right (Ok pair) =
+    ShowsPath log left (Ok pair.current) × ShowsPath log right (Ok pair.other)
 OpensBoth log left right (Err unopened) = RefusesSide log left right unopened.side unopened.error
 
 -- what was refused, if anything was

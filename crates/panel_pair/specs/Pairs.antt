@@ -9,7 +9,8 @@ use Rattle.panel_state.specs.Readings.{opened_panel}
 use Rattle.panel_pair.specs.declared.side.Side.{Side}
 use Rattle.panel_pair.specs.declared.side.Side.TheVariants.{Left, Right}
 
--- the current panel, the other one, the side on which the current one stands, and how patterns are read that are typed
+-- the current panel, the other one, the side on which the current one stands, and how
+-- patterns are read that are typed
 pub record PairState : Type 0 where
   pub current : PanelState
   pub other : PanelState
@@ -52,7 +53,12 @@ untagged_pair pair = with_current (untagged_panel pair.current) pair
 -- the panels of two folders that were read; the left one is current, and shell patterns are on
 abbrev pub opened_pair : Route → Route → Listed → Listed → PairState
 opened_pair left right on_left on_right =
-    record { current = opened_panel left on_left; other = opened_panel right on_right; side = Left; patterns = Shell }
+    record {
+      current = opened_panel left on_left;
+      other = opened_panel right on_right;
+      side = Left;
+      patterns = Shell;
+    }
 
 -- the panels of a session that shows none: both of the root, of which nothing is read
 abbrev pub unread_pair : PairState

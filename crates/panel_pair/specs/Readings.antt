@@ -17,16 +17,18 @@ use Rattle.panel_pair.specs.declared.looking.Reread.{Reread}
 abbrev pub HasReadCause : CallLog → ResolveError → Type 0
 HasReadCause log e =
     ((folder : Route) × ListsFolder log folder (Err e))
-    ⊎ ((from : Route) × ((typed : List ℕ) × Answers (resolved_path (current log) FolderAlone from typed) (Err e)))
+    ⊎ ((from : Route)
+    × ((typed : List ℕ) × Answers (resolved_path (current log) FolderAlone from typed) (Err e)))
 
 -- something holds of each
 abbrev pub Each : {A : Type 0} → (A → Type 0) → List A → Type 0
 Each P [] = ⊤
 Each P (x ∷ xs) = P x × Each P xs
 
--- What was read left the tree as it was. Each refusal has its cause there, and tells of a fault only where the tree's count
--- has risen.
-pub record ReadsTree (refused : List ResolveError) (before after : Option CallLog) (faults faults_after : ℕ) : Type 0 where
+-- What was read left the tree as it was. Each refusal has its cause there, and tells of a fault only where
+-- the tree's count has risen.
+pub record ReadsTree (refused : List ResolveError) (before after : Option CallLog)
+    (faults faults_after : ℕ) : Type 0 where
   pub same : after ≡ before
   pub later : faults ≤ faults_after
   pub causes : IfKnown before (λ log. Each (HasReadCause log) refused)

@@ -30,6 +30,7 @@ pub enum PanelCommand {
     ShowBrief,
     /// Shows the hidden names of both panels, or shows them no more.
     ToggleHidden,
-    /// Patterns that are typed are shell patterns from now on, or regular expressions, whichever they weren't.
+    /// Patterns that are typed are shell patterns from now on, or regular
+    /// expressions, whichever they weren't.
     SwitchPatterns,
 }

@@ -1,7 +1,8 @@
 //! What the frame shows of the panels.
 ghost use Rattle.std.specs.Prelude.{◌≡◌, ◌<◌, ◌+◌, ◌++◌, ◌^◌, IfOk, OnOk};
 ghost use Rattle.panel_state.specs.Windows.{panel_rows};
-ghost use Rattle.panel_pair.specs.Frames.{has_whole_screen, inside, items_from, look_of as mark_look, page_of, pane_of as pane_for, panes_of, shape_of as layout_shape};
+ghost use Rattle.panel_pair.specs.Frames.{has_whole_screen, inside, items_from, look_of as mark_look};
+ghost use Rattle.panel_pair.specs.Frames.{page_of, pane_of as pane_for, panes_of, shape_of as layout_shape};
 
 use crate::panels::Panels;
 use crate::side::Side;
@@ -20,8 +21,8 @@ pub struct FrameSize {
 }
 
 impl Panels {
-    /// What a screen of this size shows of the panels. It takes the time of the rows on the screen, however long the listings
-    /// are.
+    /// What a screen of this size shows of the panels. It takes the time of the rows on the screen,
+    /// however long the listings are.
     pub fn panes(&self, alloc: Global, size: FrameSize) -> Result<Panes, NoMemory>
         ensures { IfOk result (λ panes. panes ≡ panes_of size self.now) }
     {
@@ -107,7 +108,8 @@ fn items_of(
     view: View,
 ) -> Result<ListingLines, NoMemory>
     requires { view.page < 2 ^ 16 }
-    ensures { IfOk result (λ items. items ≡ items_from panel.now is_current panel.now.first (panel_rows view panel.now)) }
+    ensures { IfOk result
+        (λ items. items ≡ items_from panel.now is_current panel.now.first (panel_rows view panel.now)) }
 {
     let mut items = ListingLines::new(alloc);
     let rows = panel.rows(alloc, view)?;

@@ -1,5 +1,5 @@
-//! The two panels of a session: which of them is current, what each command of the panels makes of them, and what the frame
-//! shows of them.
+//! The two panels of a session: which of them is current, what each command of the panels makes of them,
+//! and what the frame shows of them.
 #![tactic(auto)]
 
 mod command;

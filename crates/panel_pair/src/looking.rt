@@ -1,4 +1,5 @@
-//! Both panels, read again after a job's end: first both folders are read, and then the panels take what was read.
+//! Both panels, read again after a job's end: first both folders are read, and then the
+//! panels take what was read.
 ghost use Rattle.std.specs.Prelude.{◌≡◌, ◌<◌, ◌^◌, IfOk};
 ghost use Rattle.tree_trait.specs.Answers.{IfKnown};
 ghost use Rattle.panel_state.specs.Rereadings.{IsAttempt, panel_after_attempt as panel_taken};
@@ -28,21 +29,23 @@ pub struct Unread {
 }
 
 impl Panels {
-    /// Reads both folders again, the left one first. The panels stay as they are. It takes a look for each child of both.
+    /// Reads both folders again, the left one first. The panels stay as they are. It takes a
+    /// look for each child of both.
     pub fn read_both<T: ReadTree>(&self, alloc: Global, tree: &mut T) -> Result<Reread, NoMemory>
         ensures read { IfOk result (IsRereadOf self.now) }
 
         // What is read of the tree, and what that refuses.
         ensures answer { IfKnown (T.contents tree.old) (λ log. IfOk result (ShowsReread log self.now)) }
-        ensures reads { ReadsTree (refused_looks result) (T.contents tree.old) (T.contents tree.new) (T.fault_count tree.old) (T.fault_count tree.new) }
+        ensures reads { ReadsTree (refused_looks result) (T.contents tree.old) (T.contents tree.new)
+            (T.fault_count tree.old) (T.fault_count tree.new) }
     {
         let left = self.left().try_reading(alloc, tree)?;
         let right = self.right().try_reading(alloc, tree)?;
         Ok(Reread { left, right })
     }
 
-    /// Takes what was read again, and answers why a folder wasn't; a page has so many rows. A panel whose folder was refused
-    /// stays as it was. It takes no memory.
+    /// Takes what was read again, and answers why a folder wasn't; a page has so many rows. A panel whose
+    /// folder was refused stays as it was. It takes no memory.
     pub fn take(&mut self, page: usize, reread: Reread) -> Unread
         requires page { page < 2 ^ 16 }
         requires read { IsRereadOf self.old reread }

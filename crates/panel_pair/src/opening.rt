@@ -40,17 +40,19 @@ impl Panels {
         })
     }
 
-    /// The panels of the folders that two paths lead to. The left one is read first, and is current. It takes a look for each
-    /// child of both.
+    /// The panels of the folders that two paths lead to. The left one is read first, and is current. It
+    /// takes a look for each child of both.
     pub fn open<T: ReadTree>(
         alloc: Global,
         tree: &mut T,
         left: &Path,
         right: &Path,
     ) -> Result<Panels, Unopened>
-        ensures opened { IfOk result (λ pair. pair ≡ opened_pair pair.current.folder pair.other.folder pair.current.listing pair.other.listing) }
+        ensures opened { IfOk result (λ pair. pair
+            ≡ opened_pair pair.current.folder pair.other.folder pair.current.listing pair.other.listing) }
         ensures answer { IfKnown (T.contents tree.old) (λ log. OpensBoth log left.now right.now result) }
-        ensures reads { ReadsTree (refused_opening result) (T.contents tree.old) (T.contents tree.new) (T.fault_count tree.old) (T.fault_count tree.new) }
+        ensures reads { ReadsTree (refused_opening result) (T.contents tree.old) (T.contents tree.new)
+            (T.fault_count tree.old) (T.fault_count tree.new) }
         ensures carried { IfErr result (λ unopened. CarriesCause unopened.error) }
     {
         let current = match opened(alloc, tree, left) {

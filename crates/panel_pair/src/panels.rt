@@ -7,8 +7,8 @@ use panel_state::Panel;
 use std::marker::Model;
 use tagging::PatternKind;
 
-/// The two panels. The current one stands on a side of the screen, and the other one on the opposite side. They know how a
-/// pattern is read that is typed for them.
+/// The two panels. The current one stands on a side of the screen, and the other one on the opposite side.
+/// They know how a pattern is read that is typed for them.
 #[derive(Drop)]
 pub struct Panels {
     pub(crate) current: Panel,
@@ -22,7 +22,12 @@ impl Model for Panels {
 
     ghost Value = { PairState };
 
-    ghost view = { λ p. record { current = p.current; other = p.other; side = p.side; patterns = p.patterns } };
+    ghost view = { λ p. record {
+      current = p.current;
+      other = p.other;
+      side = p.side;
+      patterns = p.patterns;
+    } };
 }
 
 impl Panels {

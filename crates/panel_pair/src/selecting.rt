@@ -8,11 +8,12 @@ use mc_text::{Name, Path, PathError, Paths};
 use std::alloc::Global;
 
 impl Panels {
-    /// The paths of what a job takes: of the tagged names in the order of their rows, or else of the current one; none on `..`.
-    /// It goes over the shown names once.
+    /// The paths of what a job takes: of the tagged names in the order of their rows, or else of the
+    /// current one; none on `..`. It goes over the shown names once.
     pub fn selection(&self, alloc: Global) -> Result<Paths, PathError>
         ensures paths { IfOk result (λ paths. paths ≡ selected_paths self.now.current) }
-        ensures too_long { IfErr result (λ e. e ≢ PathError.Memory → IsTooLong e self.now.current.folder (selection self.now.current)) }
+        ensures too_long { IfErr result
+            (λ e. e ≢ PathError.Memory → IsTooLong e self.now.current.folder (selection self.now.current)) }
     {
         let names = self.current.selection(alloc)?;
         paths_in(alloc, self.current.folder(), names.as_slice())

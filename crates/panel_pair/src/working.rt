@@ -22,9 +22,10 @@ use tree_trait::ReadTree;
 impl Panels {
     /// Does what a command says; a page has so many rows. What is refused leaves both panels as they were.
     ///
-    /// A command that moves a cursor, tags the current name or changes sides takes the time of a few looks, however long the
-    /// listings are. One that leads to a folder reads it, with a look for each child. `Arrange` and `ToggleHidden` take the number of shown
-    /// names times its logarithm; patterns and the comparison go over the shown names once.
+    /// A command that moves a cursor, tags the current name or changes sides takes the time of a few looks,
+    /// however long the listings are. One that leads to a folder reads it, with a look for each child.
+    /// `Arrange` and `ToggleHidden` take the number of shown names times its logarithm; patterns and the
+    /// comparison go over the shown names once.
     pub fn work<T: ReadTree>(
         &mut self,
         alloc: Global,
@@ -39,8 +40,10 @@ impl Panels {
         ensures refused { OnErr result (self.new ≡ self.old) }
 
         // What is read of the tree, and what that refuses.
-        ensures answer { IfKnown (T.contents tree.old) (λ log. CommandReads command log self.old.current (outcome result self.new.current)) }
-        ensures reads { ReadsTree (refused_in result) (T.contents tree.old) (T.contents tree.new) (T.fault_count tree.old) (T.fault_count tree.new) }
+        ensures answer { IfKnown (T.contents tree.old) (λ log.
+            CommandReads command log self.old.current (outcome result self.new.current)) }
+        ensures reads { ReadsTree (refused_in result) (T.contents tree.old) (T.contents tree.new)
+            (T.fault_count tree.old) (T.fault_count tree.new) }
         ensures carried { IfErr result CarriesCause }
     {
         match self.carry_out(alloc, tree, page, command) {
@@ -60,7 +63,8 @@ impl Panels {
         requires { page < 2 ^ 16 }
         ensures done { OnOk result (CommandDone command page self.old self.new) }
         ensures refused { OnErr result (self.new ≡ self.old) }
-        ensures answer { IfKnown (T.contents tree.old) (λ log. CommandReads command log self.old.current (outcome result self.new.current)) }
+        ensures answer { IfKnown (T.contents tree.old) (λ log.
+            CommandReads command log self.old.current (outcome result self.new.current)) }
         ensures same { T.contents tree.new ≡ T.contents tree.old }
         ensures cause { HasCause ResolveError.Fault (T.fault_count tree.old) (T.fault_count tree.new) result }
         ensures carried { IfErr result CarriesCause }
@@ -125,8 +129,8 @@ fn other_kind(kind: PatternKind) -> PatternKind
     }
 }
 
-/// Shows the hidden names of both panels, or shows them no more, whichever the first one doesn't. What needs memory comes first, so
-/// that both stay as they were where it is wanting.
+/// Shows the hidden names of both panels, or shows them no more, whichever the first one doesn't. What
+/// needs memory comes first, so that both stay as they were where it is wanting.
 fn toggle_hidden(
     alloc: Global,
     page: usize,
@@ -134,8 +138,10 @@ fn toggle_hidden(
     other: &mut Panel,
 ) -> Result<(), NoMemory>
     requires { page < 2 ^ 16 }
-    ensures current { OnOk result (current.new ≡ arranged_again page (Hidden (not current.old.wish.hidden)) current.new.listing current.old) }
-    ensures other { OnOk result (other.new ≡ arranged_again page (Hidden (not current.old.wish.hidden)) other.new.listing other.old) }
+    ensures current { OnOk result (current.new
+        ≡ arranged_again page (Hidden (not current.old.wish.hidden)) current.new.listing current.old) }
+    ensures other { OnOk result
+        (other.new ≡ arranged_again page (Hidden (not current.old.wish.hidden)) other.new.listing other.old) }
     ensures current_items { OnOk result (HasSameItems current.old.listing current.new.listing) }
     ensures other_items { OnOk result (HasSameItems other.old.listing other.new.listing) }
     ensures current_kept { OnErr result (current.new ≡ current.old) }

@@ -16,7 +16,8 @@ wish_after (Filtered filter) wish = record wish { filter = filter }
 -- the panel with its items shown so
 abbrev pub arranged_again : ℕ → Arrangement → Listed → PanelState → PanelState
 arranged_again page arrangement listing p =
-    with_cursor page (row_among listing p) (record p { listing = listing; wish = wish_after arrangement p.wish })
+    with_cursor page (row_among listing p)
+    (record p { listing = listing; wish = wish_after arrangement p.wish })
 
 -- a listing is of the same items as they were read
 pub record HasSameItems (old new : Listed) : Type 0 where

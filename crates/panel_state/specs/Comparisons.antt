@@ -6,4 +6,5 @@ use Rattle.panel_state.specs.Panels.{PanelState, with_tags}
 
 -- the panel with those of its shown files tagged that differ from the other panel's, and nothing else
 abbrev pub compared_panel : PanelState → PanelState → PanelState
-compared_panel other p = with_tags (names_in (differing (files_shown p.listing) (files_shown other.listing))) p
+compared_panel other p =
+    with_tags (names_in (differing (files_shown p.listing) (files_shown other.listing))) p

@@ -1,5 +1,7 @@
--- What Enter, M-y and M-u make of a panel (mc(1), "Keys"; on which row the cursor then stands is partly our own).
-use Rattle.std.specs.Prelude.{◌≡◌, ℕ, Bool, nat_lt, if◌then◌else◌, List, [], ◌∷◌, Option, Some, None, Result, Ok, Err, ⊤}
+-- What Enter, M-y and M-u make of a panel (mc(1), "Keys"; on which row the cursor then
+-- stands is partly our own).
+use Rattle.std.specs.Prelude.{◌≡◌, ℕ, Bool, nat_lt, if◌then◌else◌, List, []}
+use Rattle.std.specs.Prelude.{◌∷◌, Option, Some, None, Result, Ok, Err, ⊤}
 use Rattle.mc_text.specs.Routes.{Route, last_of}
 use Rattle.tree_trait.specs.Refusals.{holder}
 use Rattle.tree_trait.specs.Change.{CallLog, current}
@@ -30,7 +32,8 @@ way_of p = way_on (nat_lt p.cursor (row_count p)) (current_item p)
 -- What Enter makes of the panel. Above, the cursor stands on the folder that was left.
 abbrev pub Enters : Way → ℕ → PanelState → PanelState → Going → Type 0
 Enters Nowhere page p new going = (going ≡ NoFolder) × (new ≡ p)
-Enters Up page p new going = (going ≡ Went) × (new ≡ went_to page (holder p.folder) new.listing (last_of p.folder) p)
+Enters Up page p new going =
+    (going ≡ Went) × (new ≡ went_to page (holder p.folder) new.listing (last_of p.folder) p)
 Enters Into page p new going = (going ≡ Went) × (new ≡ gone_to page new.folder new.listing p)
 
 -- a folder at the end of a way is refused; a device may fail on the way, too
@@ -44,12 +47,14 @@ ShowsResolved log (Ok folder) (Ok p) = ShowsFolder log folder (Ok p)
 ShowsResolved log (Ok folder) (Err e) = RefusesAtEnd log folder e
 ShowsResolved log (Err e) result = Answers (Err e) result
 
--- what Enter reads of the tree, and what that refuses; where it leads nowhere nothing is read, and nothing refused
+-- what Enter reads of the tree, and what that refuses; where it leads nowhere nothing is
+-- read, and nothing refused
 abbrev pub Reads : Way → CallLog → PanelState → Result PanelState ResolveError → Type 0
 Reads Nowhere log p (Ok new) = ⊤
 Reads Nowhere log p (Err e) = ⊥
 Reads Up log p result = ShowsFolder log (holder p.folder) result
-Reads Into log p result = ShowsResolved log (resolved_path (current log) FolderAlone p.folder (current_text p)) result
+Reads Into log p result =
+    ShowsResolved log (resolved_path (current log) FolderAlone p.folder (current_text p)) result
 
 -- what going back makes of the panel, and going forward
 abbrev pub GoesTo : List Route → (Route → PanelState) → PanelState → PanelState → Going → Type 0
@@ -57,7 +62,8 @@ GoesTo [] there p new going = (going ≡ NoFolder) × (new ≡ p)
 GoesTo (folder ∷ folders) there p new going = (going ≡ Went) × (new ≡ there folder)
 
 abbrev pub Turns : Turn → ℕ → PanelState → PanelState → Going → Type 0
-Turns turn page p new = GoesTo (folders_on turn p.visits) (λ folder. turned_to turn page folder new.listing p) p new
+Turns turn page p new =
+    GoesTo (folders_on turn p.visits) (λ folder. turned_to turn page folder new.listing p) p new
 
 -- the first of some folders is shown; where there is none nothing is read, and nothing refused
 abbrev pub ShowsNext : CallLog → List Route → Result PanelState ResolveError → Type 0

@@ -11,4 +11,5 @@ use Rattle.panel_state.specs.Panels.{PanelState, current_name}
 pub record IsHiddenPlan (hidden : Bool) (p : PanelState) (plan : HiddenPlan) : Type 0 where
   pub name_is : plan.name ≡ current_name p
   pub sound : AreSound p.listing.items plan.shown
-  pub arranged : AreArranged (wish_after (Hidden hidden) p.wish) p.listing.items (items_at p.listing.items plan.shown)
+  pub arranged : AreArranged (wish_after (Hidden hidden) p.wish) p.listing.items
+      (items_at p.listing.items plan.shown)

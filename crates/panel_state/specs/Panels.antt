@@ -1,5 +1,6 @@
 -- The state of a panel, and what moving its cursor makes of it (own, after mc(1), "Directory Panels").
-use Rattle.std.specs.Prelude.{ℕ, ◌+◌, ◌-◌, ◌^◌, ◌<◌, ◌≤◌, min, codes, Bool, false, List, [], ◌∷◌, length, slice_index_or, nat_lt, if◌then◌else◌, Option, Some, None, unwrap_or}
+use Rattle.std.specs.Prelude.{ℕ, ◌+◌, ◌-◌, ◌^◌, ◌<◌, ◌≤◌, min, codes, Bool, false, List, [], ◌∷◌, length}
+use Rattle.std.specs.Prelude.{slice_index_or, nat_lt, if◌then◌else◌, Option, Some, None, unwrap_or}
 use Rattle.std.specs.List.{position}
 use Rattle.std.specs.Option.{option_map}
 use Rattle.std.specs.Str.{bytes_eq}
@@ -15,8 +16,8 @@ use Rattle.panel_listing.specs.Orders.{AreArranged}
 use Rattle.panel_state.specs.Formats.{FormatState, in_brief, rows_shown}
 use Rattle.panel_state.specs.Visits.{FoldersShown}
 
--- a panel: its folder, what that held when it was read, which of it is wished for and how it is shown, the tagged names, the
--- row of the cursor, the first row on the screen, and the other folders that were shown
+-- a panel: its folder, what that held when it was read, which of it is wished for and how it is shown, the
+-- tagged names, the row of the cursor, the first row on the screen, and the other folders that were shown
 pub record PanelState : Type 0 where
   pub folder : Route
   pub listing : Listed
@@ -27,7 +28,8 @@ pub record PanelState : Type 0 where
   pub first : ℕ
   pub visits : FoldersShown
 
--- what is listed is what is wished for, and the cursor stands on one of its rows, on the screen or right above it
+-- what is listed is what is wished for, and the cursor stands on one of its rows, on the
+-- screen or right above it
 pub record IsSteady (wish : Wish) (listing : Listed) (cursor first : ℕ) : Type 0 where
   pub arranged : AreArranged wish listing.items listing.shown
   pub small : length (rows_in listing) < 2 ^ 60

@@ -1,4 +1,5 @@
--- What reading folders again makes of panels (own, after mc(1), "Keys": ctrl-r; a panel whose folder can't be read stays as it was).
+-- What reading folders again makes of panels (own, after mc(1), "Keys": ctrl-r; a panel whose folder can't
+-- be read stays as it was).
 use Rattle.std.specs.Prelude.{◌≡◌, ℕ, ◌-◌, ◌<◌, ◌≤◌, ◌^◌, length, Option, Some, None, Result, Ok, Err, ◌≢◌}
 use Rattle.std.specs.FinSet as set
 use Rattle.mc_text.specs.Routes.{Route}

@@ -30,7 +30,8 @@ unselected_panel pattern p = with_tags (set.difference (tag_set p) (found_files 
 
 -- the panel with the other answer for each shown file
 abbrev pub inverted_files : PanelState → PanelState
-inverted_files p = with_tags (inverted_tags (tag_set p) (names_in (wanted_names Files (tag_set p) p.listing))) p
+inverted_files p =
+    with_tags (inverted_tags (tag_set p) (names_in (wanted_names Files (tag_set p) p.listing))) p
 
 -- some names, or else the current one, if there is one
 abbrev pub or_current : List (List ℕ) → Option (List ℕ) → List (List ℕ)
@@ -38,6 +39,7 @@ or_current [] None = []
 or_current [] (Some name) = name ∷ []
 or_current (name ∷ names) current = name ∷ names
 
--- what a job takes: the tagged names that are shown, in the order of their rows, or else the current one, but not `..`
+-- what a job takes: the tagged names that are shown, in the order of their rows, or else the
+-- current one, but not `..`
 abbrev pub selection : PanelState → List (List ℕ)
 selection p = or_current (wanted_names Tagged (tag_set p) p.listing) (current_name p)

@@ -4,7 +4,8 @@ use Rattle.mc_text.specs.Routes.{Route}
 use Rattle.panel_state.specs.declared.visits.Turn.{Turn}
 use Rattle.panel_state.specs.declared.visits.Turn.TheVariants.{Earlier, Later}
 
--- the folders that were shown before the present one, and those that were gone back from, each the nearest first
+-- the folders that were shown before the present one, and those that were gone back
+-- from, each the nearest first
 pub record FoldersShown : Type 0 where
   pub behind : List Route
   pub ahead : List Route

@@ -1,5 +1,5 @@
--- Which of the shown items a key asks for (mc(1), "Select group", "Compare directories"; that a link to a folder counts as no
--- folder is our own).
+-- Which of the shown items a key asks for (mc(1), "Select group", "Compare directories"; that a link to a
+-- folder counts as no folder is our own).
 use Rattle.std.specs.Prelude.{ℕ, Bool, not, if◌then◌else◌, List, [], ◌∷◌, map, filter, Option, Some, None}
 use Rattle.std.specs.FinSet as set
 use Rattle.tree_trait.specs.Refusals.{folder_kind}

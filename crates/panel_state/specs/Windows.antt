@@ -1,5 +1,7 @@
--- What the frame shows of a panel (own, after mc(1), "Directory Panels" and "Listing format": full, brief, user).
-use Rattle.std.specs.Prelude.{◌≡◌, ℕ, ◌+◌, ◌-◌, ◌/◌, ◌==◌, ◌&&◌, Bool, false, codes, if◌then◌else◌, List, [], ◌∷◌, ◌++◌, slice_index_or, Option, None}
+-- What the frame shows of a panel (own, after mc(1), "Directory Panels" and "Listing
+-- format": full, brief, user).
+use Rattle.std.specs.Prelude.{◌≡◌, ℕ, ◌+◌, ◌-◌, ◌/◌, ◌==◌, ◌&&◌, Bool, false, codes}
+use Rattle.std.specs.Prelude.{if◌then◌else◌, List, [], ◌∷◌, ◌++◌, slice_index_or, Option, None}
 use Rattle.panel_listing.specs.declared.format.Field.TheVariants.{Name, TypeLetter}
 use Rattle.panel_listing.specs.FormatTexts.{RowFormat}
 use Rattle.panel_listing.specs.Listings.{rows_in}
@@ -30,17 +32,24 @@ panel_heading columns format = heading_by format.layout columns format.text
 -- the rows of a column, from a row on
 unfoldable pub column_rows : View → ℕ → RowFormat → PanelState → List (List ℕ)
 column_rows view first format p =
-    rows_text p.listing (tag_set p) format (record { columns = view.columns; first = first; count = view.page; now = view.now })
+    rows_text p.listing (tag_set p) format (record {
+      columns = view.columns;
+      first = first;
+      count = view.page;
+      now = view.now;
+    })
 
 -- the view with so many columns
 abbrev pub narrowed_view : View → ℕ → View
 narrowed_view view columns = record view { columns = columns }
 
--- In brief there are two columns with a wall between them. The first has half of what that leaves, rounded down.
+-- In brief there are two columns with a wall between them. The first has half of what
+-- that leaves, rounded down.
 abbrev pub brief_rows : View → PanelState → List (List ℕ)
 brief_rows view p =
     column_rows (narrowed_view view ((view.columns - 1) / 2)) p.first brief_format p
-    ++ column_rows (narrowed_view view (view.columns - 1 - (view.columns - 1) / 2)) (p.first + view.page) brief_format p
+    ++ column_rows (narrowed_view view (view.columns - 1 - (view.columns - 1) / 2))
+    (p.first + view.page) brief_format p
 
 -- the rows on the screen
 abbrev pub rows_by : Layout → View → PanelState → List (List ℕ)

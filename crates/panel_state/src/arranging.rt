@@ -22,8 +22,8 @@ pub enum Arrangement {
 }
 
 impl Panel {
-    /// Shows the items in another order, or others of them. The folder isn't read again. The cursor stays on its name, or
-    /// else on its row; tags stay, also on what isn't shown any more.
+    /// Shows the items in another order, or others of them. The folder isn't read again. The cursor stays
+    /// on its name, or else on its row; tags stay, also on what isn't shown any more.
     pub fn arrange(
         &mut self,
         alloc: Global,

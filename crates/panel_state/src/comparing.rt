@@ -10,8 +10,8 @@ use mc_text::NoMemory;
 use std::alloc::Global;
 use tagging::{FileFact, compare_quick};
 
-/// Tags in two panels those of the shown files that the other one lacks, or that are newer than there, or as old and of
-/// another size. All other tags of both are taken.
+/// Tags in two panels those of the shown files that the other one lacks, or that are newer than there, or
+/// as old and of another size. All other tags of both are taken.
 pub fn compare_panels(alloc: Global, left: &mut Panel, right: &mut Panel) -> Result<(), NoMemory>
     ensures left { OnOk result (left.new ≡ compared_panel right.old left.old) }
     ensures right { OnOk result (right.new ≡ compared_panel left.old right.old) }

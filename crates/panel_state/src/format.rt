@@ -16,8 +16,8 @@ pub enum Layout {
     Brief,
 }
 
-/// A format as it was typed, and the layout. In brief the format is kept, so that it can be gone back to. Contracts see the
-/// layout and the text.
+/// A format as it was typed, and the layout. In brief the format is kept, so that it can be gone back to.
+/// Contracts see the layout and the text.
 #[derive(Debug, Drop)]
 pub struct PanelFormat {
     layout: Layout,
@@ -40,7 +40,8 @@ impl Model for PanelFormat {
 impl PanelFormat {
     /// The format that panels have at first.
     pub fn full(alloc: Global) -> Result<PanelFormat, NoMemory>
-        ensures { IfOk result (λ format. format ≡ record { layout = Layout.Columns; text = codes "half type name | size | mtime" }) }
+        ensures { IfOk result (λ format.
+            format ≡ record { layout = Layout.Columns; text = codes "half type name | size | mtime" }) }
     {
         match PanelFormat::user(alloc, FULL_FORMAT) {
             Ok(format) => Ok(format),
@@ -50,7 +51,8 @@ impl PanelFormat {
 
     /// The format that a text means. It is refused with the byte of its first fault.
     pub fn user(alloc: Global, text: &str) -> Result<PanelFormat, FormatError>
-        ensures format { IfOk result (λ format. format ≡ record { layout = Layout.Columns; text = text.now }) }
+        ensures format { IfOk result (λ format.
+            format ≡ record { layout = Layout.Columns; text = text.now }) }
         ensures refused { IfErr result (λ e. e ≢ FormatError.Memory → format_of text.now ≡ Err e) }
     {
         let format = Format::parse(alloc, text)?;

@@ -3,7 +3,8 @@ use panel_listing::Listing;
 use std::marker::Model;
 use tagging::Tags;
 
-/// What the folder held when it was read again, the tags that are kept, and the row in which the cursor will stand.
+/// What the folder held when it was read again, the tags that are kept, and the row in
+/// which the cursor will stand.
 #[derive(Drop)]
 pub struct Fresh {
     pub listing: Listing,

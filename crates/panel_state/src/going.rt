@@ -7,7 +7,8 @@ ghost use Rattle.resolving.specs.Errors.{CarriesCause, count_told};
 ghost use Rattle.panel_listing.specs.Orders.{AreArranged};
 ghost use Rattle.panel_listing.specs.Listings.{rows_in};
 ghost use Rattle.panel_state.specs.Panels.{with_cursor_on};
-ghost use Rattle.panel_state.specs.Readings.{ShowsFolder, outcome, read_again, went_to, gone_to, gone_to_path, shown_anew};
+ghost use Rattle.panel_state.specs.Readings.{ShowsFolder, outcome, read_again, went_to};
+ghost use Rattle.panel_state.specs.Readings.{gone_to, gone_to_path, shown_anew};
 ghost use Rattle.panel_state.specs.Goings.{way_of, Enters, Reads, Turns, ShowsNext};
 ghost use Rattle.panel_state.specs.Visits.{folders_on};
 
@@ -40,8 +41,8 @@ pub enum Way {
 }
 
 impl Panel {
-    /// Enters the folder of the current row, or the one that a link there leads to. From `..` the cursor comes to stand on
-    /// the folder that was left. Where it is refused the panel stays as it was.
+    /// Enters the folder of the current row, or the one that a link there leads to. From `..` the cursor
+    /// comes to stand on the folder that was left. Where it is refused the panel stays as it was.
     pub fn enter<T: ReadTree>(
         &mut self,
         alloc: Global,
@@ -51,7 +52,8 @@ impl Panel {
         requires { page < 2 ^ 16 }
         ensures done { IfOk result (Enters (way_of self.old) page self.old self.new) }
         ensures refused { OnErr result (self.new ≡ self.old) }
-        ensures answer { IfKnown (T.contents tree.old) (λ log. Reads (way_of self.old) log self.old (outcome result self.new)) }
+        ensures answer { IfKnown (T.contents tree.old) (λ log.
+            Reads (way_of self.old) log self.old (outcome result self.new)) }
         ensures same { T.contents tree.new ≡ T.contents tree.old }
         ensures cause { HasCause ResolveError.Fault (T.fault_count tree.old) (T.fault_count tree.new) result }
         ensures counts { T.fault_count tree.new ≡ count_told (T.fault_count tree.old) result }
@@ -80,7 +82,8 @@ impl Panel {
         requires { page < 2 ^ 16 }
         ensures done { OnOk result (self.new ≡ gone_to page folder self.new.listing self.old) }
         ensures refused { OnErr result (self.new ≡ self.old) }
-        ensures answer { IfKnown (T.contents tree.old) (λ log. ShowsFolder log folder (outcome result self.new)) }
+        ensures answer { IfKnown (T.contents tree.old) (λ log.
+            ShowsFolder log folder (outcome result self.new)) }
         ensures same { T.contents tree.new ≡ T.contents tree.old }
         ensures cause { HasCause ResolveError.Fault (T.fault_count tree.old) (T.fault_count tree.new) result }
         ensures counts { T.fault_count tree.new ≡ count_told (T.fault_count tree.old) result }
@@ -92,8 +95,9 @@ impl Panel {
         self.change_to(alloc, tree, page, folder, None)
     }
 
-    /// Goes to the folder that holds a path without links, with the cursor on the path's last name, or on the first row where
-    /// that name isn't shown. Its own folder is read again. The root lies in none, and is gone to itself.
+    /// Goes to the folder that holds a path without links, with the cursor on the path's last name, or
+    /// on the first row where that name isn't shown. Its own folder is read again. The root lies in
+    /// none, and is gone to itself.
     pub fn go_to_path<T: ReadTree>(
         &mut self,
         alloc: Global,
@@ -104,7 +108,8 @@ impl Panel {
         requires { page < 2 ^ 16 }
         ensures done { OnOk result (self.new ≡ gone_to_path page path self.new.listing self.old) }
         ensures refused { OnErr result (self.new ≡ self.old) }
-        ensures answer { IfKnown (T.contents tree.old) (λ log. ShowsFolder log (holder path) (outcome result self.new)) }
+        ensures answer { IfKnown (T.contents tree.old) (λ log.
+            ShowsFolder log (holder path) (outcome result self.new)) }
         ensures same { T.contents tree.new ≡ T.contents tree.old }
         ensures cause { HasCause ResolveError.Fault (T.fault_count tree.old) (T.fault_count tree.new) result }
         ensures counts { T.fault_count tree.new ≡ count_told (T.fault_count tree.old) result }
@@ -118,7 +123,8 @@ impl Panel {
         self.change_to(alloc, tree, page, folder, name)
     }
 
-    /// Goes along the folders that were shown, to the one before this one or to the one that was gone back from last, if there is one.
+    /// Goes along the folders that were shown, to the one before this one or to the one that was gone back
+    /// from last, if there is one.
     pub fn turn<T: ReadTree>(
         &mut self,
         alloc: Global,
@@ -129,7 +135,8 @@ impl Panel {
         requires { page < 2 ^ 16 }
         ensures done { IfOk result (Turns turn page self.old self.new) }
         ensures refused { OnErr result (self.new ≡ self.old) }
-        ensures answer { IfKnown (T.contents tree.old) (λ log. ShowsNext log (folders_on turn self.old.visits) (outcome result self.new)) }
+        ensures answer { IfKnown (T.contents tree.old) (λ log.
+            ShowsNext log (folders_on turn self.old.visits) (outcome result self.new)) }
         ensures same { T.contents tree.new ≡ T.contents tree.old }
         ensures cause { HasCause ResolveError.Fault (T.fault_count tree.old) (T.fault_count tree.new) result }
         ensures counts { T.fault_count tree.new ≡ count_told (T.fault_count tree.old) result }
@@ -167,7 +174,8 @@ impl Panel {
         requires { page < 2 ^ 16 }
         ensures done { IfOk result (Enters Way.Into page self.old self.new) }
         ensures refused { OnErr result (self.new ≡ self.old) }
-        ensures answer { IfKnown (T.contents tree.old) (λ log. Reads Way.Into log self.old (outcome result self.new)) }
+        ensures answer { IfKnown (T.contents tree.old) (λ log.
+            Reads Way.Into log self.old (outcome result self.new)) }
         ensures same { T.contents tree.new ≡ T.contents tree.old }
         ensures cause { HasCause ResolveError.Fault (T.fault_count tree.old) (T.fault_count tree.new) result }
         ensures counts { T.fault_count tree.new ≡ count_told (T.fault_count tree.old) result }
@@ -197,7 +205,8 @@ impl Panel {
         requires { page < 2 ^ 16 }
         ensures done { OnOk result (self.new ≡ went_to page folder self.new.listing on self.old) }
         ensures refused { OnErr result (self.new ≡ self.old) }
-        ensures answer { IfKnown (T.contents tree.old) (λ log. ShowsFolder log folder (outcome result self.new)) }
+        ensures answer { IfKnown (T.contents tree.old) (λ log.
+            ShowsFolder log folder (outcome result self.new)) }
         ensures same { T.contents tree.new ≡ T.contents tree.old }
         ensures cause { HasCause ResolveError.Fault (T.fault_count tree.old) (T.fault_count tree.new) result }
         ensures counts { T.fault_count tree.new ≡ count_told (T.fault_count tree.old) result }
@@ -218,9 +227,11 @@ impl Panel {
         on: Option<Name>,
     ) -> Result<(), ResolveError>
         requires { page < 2 ^ 16 }
-        ensures done { OnOk result (self.new ≡ with_cursor_on page on (read_again page self.new.listing self.old)) }
+        ensures done { OnOk result
+            (self.new ≡ with_cursor_on page on (read_again page self.new.listing self.old)) }
         ensures refused { OnErr result (self.new ≡ self.old) }
-        ensures answer { IfKnown (T.contents tree.old) (λ log. ShowsFolder log self.old.folder (outcome result self.new)) }
+        ensures answer { IfKnown (T.contents tree.old) (λ log.
+            ShowsFolder log self.old.folder (outcome result self.new)) }
         ensures same { T.contents tree.new ≡ T.contents tree.old }
         ensures cause { HasCause ResolveError.Fault (T.fault_count tree.old) (T.fault_count tree.new) result }
         ensures counts { T.fault_count tree.new ≡ count_told (T.fault_count tree.old) result }
@@ -241,7 +252,8 @@ impl Panel {
         self.cursor = row;
     }
 
-    /// Shows another folder: nothing is tagged, and the cursor is on a name, or else on the first row. It takes no memory.
+    /// Shows another folder: nothing is tagged, and the cursor is on a name, or else on the first
+    /// row. It takes no memory.
     fn show(&mut self, page: usize, folder: Path, listing: Listing, on: Option<Name>)
         requires page { page < 2 ^ 16 }
         requires arranged { AreArranged self.old.wish listing.items listing.shown }

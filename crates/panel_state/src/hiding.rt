@@ -12,7 +12,8 @@ use panel_listing::ShownItems;
 use std::alloc::Global;
 use std::mem;
 
-/// What a panel is to show once hidden names are wanted, or aren't any more: which items, and the name on which the cursor stays.
+/// What a panel is to show once hidden names are wanted, or aren't any more: which items, and the name
+/// on which the cursor stays.
 #[derive(Drop)]
 pub struct HiddenPlan {
     pub shown: ShownItems,

@@ -1,4 +1,5 @@
-//! The state of a panel: a folder's listing, a cursor, tags and the folders that were shown, and what each key makes of it.
+//! The state of a panel: a folder's listing, a cursor, tags and the folders that were shown, and
+//! what each key makes of it.
 #![tactic(auto)]
 
 mod arranging;

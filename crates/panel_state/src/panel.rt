@@ -1,9 +1,11 @@
 //! A panel: a folder's listing with a cursor on one of its rows, and the first row on the screen.
-ghost use Rattle.std.specs.Prelude.{◌≡◌, ◌≢◌, ◌+◌, ◌-◌, ◌<◌, ◌≤◌, ◌^◌, if◌then◌else◌, [], codes, IfOk, IfErr, IfSome, length, option_map};
+ghost use Rattle.std.specs.Prelude.{◌≡◌, ◌≢◌, ◌+◌, ◌-◌, ◌<◌, ◌≤◌, ◌^◌, if◌then◌else◌};
+ghost use Rattle.std.specs.Prelude.{[], codes, IfOk, IfErr, IfSome, length, option_map};
 ghost use Rattle.mc_text.specs.Routes.{spelled_route};
 ghost use Rattle.panel_listing.specs.Orders.{AreArranged};
 ghost use Rattle.panel_listing.specs.Listings.{rows_in};
-ghost use Rattle.panel_state.specs.Panels.{tag_set, row_count, current_name, current_path, current_text, moved_by, with_format, with_brief};
+ghost use Rattle.panel_state.specs.Panels.{tag_set, row_count, current_name, current_path};
+ghost use Rattle.panel_state.specs.Panels.{current_text, moved_by, with_format, with_brief};
 
 use crate::format::{Layout, PanelFormat};
 use crate::scrolling::{rows_shown, scrolled};
@@ -18,9 +20,9 @@ use tagging::Tags;
 
 /// A panel. Its first row is `..` unless its folder is the root.
 ///
-/// A key that moves the cursor, tags the current name or draws takes a time that doesn't grow with the listing, but for the
-/// logarithm of the number of tags. Reading and arranging take that of the listing, what goes over names (patterns, the
-/// selection, the comparison) the number of rows, times that logarithm.
+/// A key that moves the cursor, tags the current name or draws takes a time that doesn't grow with the
+/// listing, but for the logarithm of the number of tags. Reading and arranging take that of the listing,
+/// what goes over names (patterns, the selection, the comparison) the number of rows, times that logarithm.
 #[derive(Drop)]
 pub struct Panel {
     pub(crate) folder: Path,
@@ -130,7 +132,8 @@ impl Panel {
     pub fn current_path(&self, alloc: Global) -> Result<Option<Path>, PathError>
         ensures path { IfOk result (λ path. path ≡ current_path self.now) }
         ensures fits { IfOk result (λ path. IfSome path (λ p. length (spelled_route p) ≤ 4096)) }
-        ensures too_long { IfErr result (λ e. e ≢ PathError.Memory → IfSome (current_path self.now) (λ p. 4096 < length (spelled_route p))) }
+        ensures too_long { IfErr result (λ e. e ≢ PathError.Memory
+            → IfSome (current_path self.now) (λ p. 4096 < length (spelled_route p))) }
     {
         match self.current_name() {
             None => Ok(None),

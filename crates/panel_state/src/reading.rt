@@ -4,7 +4,8 @@ ghost use Rattle.tree_trait.specs.Answers.{IfKnown, HasCause};
 ghost use Rattle.resolving.specs.Errors.{CarriesCause, count_told, refused_by};
 ghost use Rattle.panel_listing.specs.Orders.{AreArranged};
 ghost use Rattle.panel_listing.specs.Listings.{nothing_listed, rows_in};
-ghost use Rattle.panel_state.specs.Readings.{ListsFolder, ShowsFolder, outcome, first_wish, opened_panel, read_again};
+ghost use Rattle.panel_state.specs.Readings.{ListsFolder, ShowsFolder, outcome};
+ghost use Rattle.panel_state.specs.Readings.{first_wish, opened_panel, read_again};
 
 use crate::format::PanelFormat;
 use crate::panel::Panel;
@@ -18,8 +19,8 @@ use tagging::Tags;
 use tree_trait::{ReadTree, TreeError};
 
 impl Panel {
-    /// The panel of a folder, whose path has no links: by name, hidden names too, without a filter, in the full format,
-    /// the cursor on the first row.
+    /// The panel of a folder, whose path has no links: by name, hidden names too, without a filter, in the
+    /// full format, the cursor on the first row.
     pub fn open<T: ReadTree>(
         alloc: Global,
         tree: &mut T,
@@ -64,7 +65,8 @@ impl Panel {
         })
     }
 
-    /// Reads its folder again. The cursor stays on its name, or else on its row; tags stay on names that are still there.
+    /// Reads its folder again. The cursor stays on its name, or else on its row; tags stay on
+    /// names that are still there.
     pub fn read_again<T: ReadTree>(
         &mut self,
         alloc: Global,
@@ -74,7 +76,8 @@ impl Panel {
         requires { page < 2 ^ 16 }
         ensures done { OnOk result (self.new ≡ read_again page self.new.listing self.old) }
         ensures refused { OnErr result (self.new ≡ self.old) }
-        ensures answer { IfKnown (T.contents tree.old) (λ log. ShowsFolder log self.old.folder (outcome result self.new)) }
+        ensures answer { IfKnown (T.contents tree.old) (λ log.
+            ShowsFolder log self.old.folder (outcome result self.new)) }
         ensures same { T.contents tree.new ≡ T.contents tree.old }
         ensures cause { HasCause ResolveError.Fault (T.fault_count tree.old) (T.fault_count tree.new) result }
         ensures counts { T.fault_count tree.new ≡ count_told (T.fault_count tree.old) result }

@@ -3,7 +3,8 @@ ghost use Rattle.std.specs.Prelude.{◌≡◌, ◌<◌, ◌≤◌, ◌^◌, Some
 ghost use Rattle.tree_trait.specs.Answers.{IfKnown, HasCause, HasRisen};
 ghost use Rattle.resolving.specs.Errors.{CarriesCause, count_told};
 ghost use Rattle.panel_state.specs.Readings.{ListsFolder, read_again};
-ghost use Rattle.panel_state.specs.Rereadings.{listed_in, IsFresh, IsAttempt, ShowsAttempt, refusal_in, panel_after_attempt, tried_read};
+ghost use Rattle.panel_state.specs.Rereadings.{listed_in, IsFresh, IsAttempt, ShowsAttempt};
+ghost use Rattle.panel_state.specs.Rereadings.{refusal_in, panel_after_attempt, tried_read};
 
 use crate::fresh::Fresh;
 use crate::kept::kept_tags;
@@ -32,7 +33,8 @@ impl Panel {
         tree: &mut T,
     ) -> Result<Fresh, ResolveError>
         ensures fresh { IfOk result (IsFresh self.now) }
-        ensures answer { IfKnown (T.contents tree.old) (λ log. ListsFolder log self.now.folder (listed_in result)) }
+        ensures answer { IfKnown (T.contents tree.old) (λ log.
+            ListsFolder log self.now.folder (listed_in result)) }
         ensures same { T.contents tree.new ≡ T.contents tree.old }
         ensures cause { HasCause ResolveError.Fault (T.fault_count tree.old) (T.fault_count tree.new) result }
         ensures counts { T.fault_count tree.new ≡ count_told (T.fault_count tree.old) result }
@@ -59,14 +61,18 @@ impl Panel {
         self.tags = tags;
     }
 
-    /// Reads its folder again, unless that is refused. The panel stays as it is. It takes a look for each child.
+    /// Reads its folder again, unless that is refused. The panel stays as it is. It
+    /// takes a look for each child.
     pub fn try_reading<T: ReadTree>(&self, alloc: Global, tree: &mut T) -> Result<Attempt, NoMemory>
         ensures attempt { IfOk result (IsAttempt self.now) }
-        ensures answer { IfKnown (T.contents tree.old) (λ log. IfOk result (ShowsAttempt log self.now.folder)) }
+        ensures answer { IfKnown (T.contents tree.old) (λ log.
+            IfOk result (ShowsAttempt log self.now.folder)) }
         ensures same { T.contents tree.new ≡ T.contents tree.old }
         ensures later { T.fault_count tree.old ≤ T.fault_count tree.new }
-        ensures fault { IfOk result (λ attempt. refusal_in attempt ≡ Some ResolveError.Fault → HasRisen (T.fault_count tree.old) (T.fault_count tree.new)) }
-        ensures counts { IfOk result (λ attempt. T.fault_count tree.new ≡ count_told (T.fault_count tree.old) (tried_read attempt)) }
+        ensures fault { IfOk result (λ attempt. refusal_in attempt ≡ Some ResolveError.Fault
+            → HasRisen (T.fault_count tree.old) (T.fault_count tree.new)) }
+        ensures counts { IfOk result (λ attempt.
+            T.fault_count tree.new ≡ count_told (T.fault_count tree.old) (tried_read attempt)) }
         ensures unread { IfErr result (λ _. T.fault_count tree.new ≡ T.fault_count tree.old) }
     {
         match self.read_fresh(alloc, tree) {

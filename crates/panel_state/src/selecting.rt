@@ -3,7 +3,8 @@ ghost use Rattle.std.specs.Prelude.{◌≡◌, ◌<◌, ◌^◌, IfOk, OnOk, OnE
 ghost use Rattle.tagging.specs.TagSets.{toggled_tags};
 ghost use Rattle.panel_state.specs.Panels.{tag_set, untagged_panel, current_name};
 ghost use Rattle.panel_state.specs.Wanted.{wanted_names};
-ghost use Rattle.panel_state.specs.Selections.{with_toggled, toggled_current, selected_panel, unselected_panel, inverted_files, selection, or_current};
+ghost use Rattle.panel_state.specs.Selections.{with_toggled, toggled_current, selected_panel};
+ghost use Rattle.panel_state.specs.Selections.{unselected_panel, inverted_files, selection, or_current};
 
 use crate::panel::Panel;
 use crate::wanted::{Wanted, names_of, wanted_items};
@@ -44,7 +45,8 @@ impl Panel {
         self.tags.unselect(alloc, &names, pattern)
     }
 
-    /// Tags those of the shown names that aren't tagged and are no folders, and takes the tags of the others of them.
+    /// Tags those of the shown names that aren't tagged and are no folders, and takes the
+    /// tags of the others of them.
     #[tactic(auto, using(crate::proofs::TagLemmas::read_back))]
     pub fn invert(&mut self, alloc: Global) -> Result<(), NoMemory>
         ensures done { OnOk result (self.new ≡ inverted_files self.old) }

@@ -10,14 +10,16 @@ use std::marker::Model;
 /// How many folders are remembered on either side.
 const REMEMBERED: usize = 100;
 
-/// To which of the folders that were shown a panel goes: to the one before, or to the one that it went back from last.
+/// To which of the folders that were shown a panel goes: to the one before, or to the one
+/// that it went back from last.
 #[derive(Clone, Copy, Debug, Drop, PartialEq, Eq)]
 pub enum Turn {
     Earlier,
     Later,
 }
 
-/// The folders that a panel showed before its present one, and those that it went back from, each the nearest first.
+/// The folders that a panel showed before its present one, and those that it went back
+/// from, each the nearest first.
 #[derive(Drop)]
 pub struct Visits {
     behind: VecDeque<Path>,
@@ -53,8 +55,8 @@ impl Visits {
         }
     }
 
-    /// Remembers a folder that is left for another one. Those that were gone back from are forgotten, and so is the
-    /// oldest of more than a hundred.
+    /// Remembers a folder that is left for another one. Those that were gone back from are forgotten, and
+    /// so is the oldest of more than a hundred.
     pub fn leave(&mut self, alloc: Global, folder: &Path) -> Result<(), NoMemory>
         ensures done { OnOk result (self.new ≡ visited_folders folder.now self.old) }
         ensures refused { OnErr result (self.new ≡ self.old) }

@@ -1,5 +1,6 @@
 //! Those of the shown items that a key asks for.
-ghost use Rattle.std.specs.Prelude.{◌≡◌, ◌∷◌, ◌++◌, [], map, filter, if◌then◌else◌, IfOk, OnOk, option_copied};
+ghost use Rattle.std.specs.Prelude.{◌≡◌, ◌∷◌, ◌++◌, [], map, filter};
+ghost use Rattle.std.specs.Prelude.{if◌then◌else◌, IfOk, OnOk, option_copied};
 ghost use Rattle.tree_trait.specs.Refusals.{folder_kind};
 ghost use Rattle.panel_state.specs.Wanted.{is_wanted, more_wanted, names_of, fact_of};
 
@@ -22,7 +23,8 @@ pub fn wanted_items<'a>(
     tags: &Tags,
     wanted: Wanted,
 ) -> Result<Vec<&'a Item>, NoMemory>
-    ensures { IfOk result (λ items. map (λ item. item.now) items.items ≡ filter (is_wanted wanted tags.now) listing.now.shown) }
+    ensures { IfOk result
+        (λ items. map (λ item. item.now) items.items ≡ filter (is_wanted wanted tags.now) listing.now.shown) }
 {
     let mut items = Vec::new(alloc);
     for row in 0..listing.len() {
@@ -39,7 +41,8 @@ fn push_wanted<'a>(
     item: Option<&'a Item>,
 ) -> Result<(), NoMemory>
     ensures { OnOk result (map (λ item. item.now) items.new.items
-        ≡ map (λ item. item.now) items.old.items ++ more_wanted (is_wanted wanted tags.now) (option_copied item.entry)) }
+        ≡ map (λ item. item.now) items.old.items
+        ++ more_wanted (is_wanted wanted tags.now) (option_copied item.entry)) }
 {
     match item {
         Some(item) if is_wanted(wanted, tags, item) => items.push(item)?,

@@ -1,7 +1,8 @@
 //! What the frame shows of a panel.
 ghost use Rattle.std.specs.Prelude.{◌≡◌, ◌++◌, ◌<◌, ◌^◌, codes, Ok, IfOk};
 ghost use Rattle.panel_listing.specs.FormatTexts.{RowFormat};
-ghost use Rattle.panel_state.specs.Windows.{panel_heading, panel_rows, brief_rows, brief_format, column_rows, narrowed_view, mark_of};
+ghost use Rattle.panel_state.specs.Windows.{panel_heading, panel_rows, brief_rows};
+ghost use Rattle.panel_state.specs.Windows.{brief_format, column_rows, narrowed_view, mark_of};
 
 use crate::format::{Layout, no_memory};
 use crate::panel::Panel;
@@ -12,8 +13,8 @@ use std::alloc::Global;
 /// The format of the rows in brief.
 pub const BRIEF_FORMAT: &str = "half type name";
 
-/// The room that a panel has on the screen: so many columns between its walls, a page of so many rows, at this second since
-/// 1970.
+/// The room that a panel has on the screen: so many columns between its walls, a page of so many rows,
+/// at this second since 1970.
 #[derive(Clone, Copy, Debug)]
 pub struct View {
     pub columns: usize,
@@ -40,8 +41,8 @@ impl Panel {
         }
     }
 
-    /// The rows on the screen; in brief those of the first column, and then those of the second. The time grows as their
-    /// number, and not with the listing.
+    /// The rows on the screen; in brief those of the first column, and then those of the second. The time
+    /// grows as their number, and not with the listing.
     pub fn rows(&self, alloc: Global, view: View) -> Result<Rows, NoMemory>
         requires { view.page < 2 ^ 16 }
         ensures { IfOk result (λ rows. rows ≡ panel_rows view self.now) }
@@ -86,7 +87,8 @@ impl Panel {
         rows(alloc, &self.listing, &self.tags, format, window)
     }
 
-    /// The rows of two columns of names. A wall stands between them, and the first has half of what that leaves.
+    /// The rows of two columns of names. A wall stands between them, and the first has
+    /// half of what that leaves.
     fn brief_rows(&self, alloc: Global, view: View) -> Result<Rows, NoMemory>
         requires { view.page < 2 ^ 16 }
         ensures { IfOk result (λ rows. rows ≡ brief_rows view self.now) }

@@ -1,5 +1,5 @@
--- A command as it is written, and what it expands to (mc(1), "Macro Substitution"; the refusals are own). A text is
--- read by its spelling: bytes, a percent with a letter, and prompts. % is 37, { is 123, } is 125.
+-- A command as it is written, and what it expands to (mc(1), "Macro Substitution"; the refusals are own). A
+-- text is read by its spelling: bytes, a percent with a letter, and prompts. % is 37, { is 123, } is 125.
 use Rattle.std.specs.Prelude.{◌≡◌, ℕ, false, ◌==◌, ◌||◌, List, [], ◌∷◌, ◌++◌, length, map, None, Some}
 use Rattle.std.specs.List.{AllByRecursion, flat_map}
 use Rattle.text_scan.specs.Lines.{IsWithout}
@@ -61,7 +61,8 @@ expanded_part context (Question question) = prompt_expansion question
 
 abbrev pub expanded_parts : Context → List Written → Expanded
 expanded_parts context [] = typed_expansion []
-expanded_parts context (part ∷ parts) = joined_expansions (expanded_part context part) (expanded_parts context parts)
+expanded_parts context (part ∷ parts) =
+    joined_expansions (expanded_part context part) (expanded_parts context parts)
 
 -- the text is written as parts that expand so
 pub record Expands (context : Context) (text : List ℕ) (expanded : Expanded) : Type 0 where
@@ -78,7 +79,8 @@ BeginsNoMacro (byte ∷ rest) = (macro_named byte ≡ None) × ((byte == 123) �
 -- what stands behind a percent at this position begins neither a macro nor a prompt
 abbrev pub IsFaultAt : ℕ → List ℕ → MacroError → Type 0
 IsFaultAt at rest (UnknownMacro place) = (place ≡ at) × BeginsNoMacro rest
-IsFaultAt at rest (OpenBrace place) = (place ≡ at) × (question : List ℕ) × (rest ≡ 123 ∷ question) × IsWithout 125 question
+IsFaultAt at rest (OpenBrace place) =
+    (place ≡ at) × (question : List ℕ) × (rest ≡ 123 ∷ question) × IsWithout 125 question
 IsFaultAt at rest Memory = ⊥
 
 -- behind a front that is well written, a percent begins nothing

@@ -4,7 +4,10 @@ use Rattle.std.specs.List.{join_with_byte}
 use Rattle.mc_text.specs.Routes.{path_text}
 use Rattle.percent_macros.specs.declared.context.Context.{Context}
 use Rattle.percent_macros.specs.declared.macros.Macro.{Macro}
-use Rattle.percent_macros.specs.declared.macros.Macro.TheVariants.{Percent, CurrentHere, CurrentOther, Extension, Stem, FolderHere, FolderOther, TaggedHere, TaggedOther, UntaggedHere, UntaggedOther, SelectedHere, SelectedOther}
+use Rattle.percent_macros.specs.declared.macros.Macro.TheVariants.{Percent, CurrentHere, CurrentOther}
+use Rattle.percent_macros.specs.declared.macros.Macro.TheVariants.{Extension, Stem, FolderHere, FolderOther}
+use Rattle.percent_macros.specs.declared.macros.Macro.TheVariants.{TaggedHere, TaggedOther, UntaggedHere}
+use Rattle.percent_macros.specs.declared.macros.Macro.TheVariants.{UntaggedOther, SelectedHere, SelectedOther}
 use Rattle.percent_macros.specs.Quoting.{name_in_quotes}
 use Rattle.percent_macros.specs.Extensions.{name_parts}
 

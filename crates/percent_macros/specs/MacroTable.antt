@@ -1,8 +1,11 @@
--- The macros by their letters (mc(1), "Macro Substitution"; `%x` and `%S` by their letters there, the rest of the
--- profile is own).
+-- The macros by their letters (mc(1), "Macro Substitution"; `%x` and `%S` by their letters there, the
+-- rest of the profile is own).
 use Rattle.std.specs.Prelude.{ℕ, Bool, true, false, ◌==◌, if◌then◌else◌, Option, Some, None}
 use Rattle.percent_macros.specs.declared.macros.Macro.{Macro}
-use Rattle.percent_macros.specs.declared.macros.Macro.TheVariants.{Percent, CurrentHere, CurrentOther, Extension, Stem, FolderHere, FolderOther, TaggedHere, TaggedOther, UntaggedHere, UntaggedOther, SelectedHere, SelectedOther}
+use Rattle.percent_macros.specs.declared.macros.Macro.TheVariants.{Percent, CurrentHere, CurrentOther}
+use Rattle.percent_macros.specs.declared.macros.Macro.TheVariants.{Extension, Stem, FolderHere, FolderOther}
+use Rattle.percent_macros.specs.declared.macros.Macro.TheVariants.{TaggedHere, TaggedOther, UntaggedHere}
+use Rattle.percent_macros.specs.declared.macros.Macro.TheVariants.{UntaggedOther, SelectedHere, SelectedOther}
 
 -- the macro of a letter behind a percent: % f p F x b d D t T u U s S
 abbrev pub macro_named : ℕ → Option Macro

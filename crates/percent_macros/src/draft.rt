@@ -2,7 +2,8 @@
 ghost use Rattle.std.specs.Prelude.{◌≡◌, [], ◌++◌, map, OnOk, IfOk, ◌||◌, string_bytes};
 ghost use Rattle.std.specs.List.{flat_map};
 ghost use Rattle.percent_macros.specs.Commands.{parts_of_piece, Typed};
-ghost use Rattle.percent_macros.specs.Expansion.{typed_expansion, prompt_expansion, meaning, joined_expansions};
+ghost use Rattle.percent_macros.specs.Expansion.{typed_expansion, prompt_expansion};
+ghost use Rattle.percent_macros.specs.Expansion.{meaning, joined_expansions};
 
 use crate::context::Context;
 use crate::inserted::inserted;
@@ -39,7 +40,8 @@ impl Draft {
 
     /// Puts text at the end.
     pub fn write(&mut self, text: &str) -> Result<(), NoMemory>
-        ensures { OnOk result (draft_of self.new ≡ joined_expansions (draft_of self.old) (typed_expansion text.now)) }
+        ensures { OnOk result
+            (draft_of self.new ≡ joined_expansions (draft_of self.old) (typed_expansion text.now)) }
     {
         self.text.push_str(text)?;
         Ok(())
@@ -47,7 +49,8 @@ impl Draft {
 
     /// Puts the text of a macro at the end.
     pub fn insert(&mut self, alloc: Global, context: &Context, meant: Macro) -> Result<(), NoMemory>
-        ensures { OnOk result (draft_of self.new ≡ joined_expansions (draft_of self.old) (meaning context.now meant)) }
+        ensures { OnOk result
+            (draft_of self.new ≡ joined_expansions (draft_of self.old) (meaning context.now meant)) }
     {
         let text = inserted(alloc, context, meant)?;
         self.text.push_str(text.as_str())?;
@@ -58,7 +61,8 @@ impl Draft {
 
     /// Puts a prompt at the end.
     pub fn ask(&mut self, alloc: Global, question: &str) -> Result<(), NoMemory>
-        ensures { OnOk result (draft_of self.new ≡ joined_expansions (draft_of self.old) (prompt_expansion question.now)) }
+        ensures { OnOk result
+            (draft_of self.new ≡ joined_expansions (draft_of self.old) (prompt_expansion question.now)) }
     {
         let text = mem::replace(&mut self.text, String::new(alloc));
         push_text(&mut self.pieces, text)?;

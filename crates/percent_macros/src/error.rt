@@ -2,8 +2,8 @@
 use mc_text::NoMemory;
 use thiserror::Error;
 
-/// Why a command isn't expanded: the position of the percent of the first macro that is none, or whose `{` nothing
-/// closes.
+/// Why a command isn't expanded: the position of the percent of the first macro that is none, or
+/// whose `{` nothing closes.
 #[derive(Clone, Copy, Debug, Drop, Error, PartialEq, Eq)]
 pub enum MacroError {
     #[error("no macro at byte {0}")]

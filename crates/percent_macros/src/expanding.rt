@@ -11,8 +11,8 @@ use crate::pieces::Expanded;
 use std::alloc::Global;
 use text_scan::{first_char, split_at_mark};
 
-/// Expands the macros of a command. `UnknownMacro` has the position of a percent behind which no macro stands,
-/// `OpenBrace` that of a prompt that nothing closes; the first such percent decides.
+/// Expands the macros of a command. `UnknownMacro` has the position of a percent behind which no macro
+/// stands, `OpenBrace` that of a prompt that nothing closes; the first such percent decides.
 pub fn expand(alloc: Global, text: &str, context: &Context) -> Result<Expanded, MacroError>
     ensures expanded { IfOk result (λ expanded. Expands context.now text.now expanded) }
     ensures refused { IfErr result (λ e. e ≢ MacroError.Memory → IsFirstFault text.now e) }

@@ -29,7 +29,8 @@ impl Model for Pieces {
     ghost view = { λ p. flat_map parts_of_piece p.0.items };
 }
 
-/// A command whose macros are expanded, and whether the tagged names of each panel are untagged when it is run.
+/// A command whose macros are expanded, and whether the tagged names of each panel are
+/// untagged when it is run.
 #[derive(Debug, Drop)]
 pub struct Expanded {
     pub pieces: Pieces,
@@ -51,7 +52,8 @@ impl Expanded {
 /// The text of pieces, with an answer in each prompt's place.
 fn fill(alloc: Global, pieces: &[Piece], answers: &[Text]) -> Result<Text, NoMemory>
     requires { length answers.now ≡ prompts_in (flat_map parts_of_piece pieces.now) }
-    ensures { IfOk result (λ command. command ≡ filled_command (flat_map parts_of_piece pieces.now) answers.now) }
+    ensures { IfOk result
+        (λ command. command ≡ filled_command (flat_map parts_of_piece pieces.now) answers.now) }
 {
     let mut command = String::new(alloc);
     let mut unused = answers;

@@ -8,8 +8,8 @@ use mc_text::{NoMemory, Text};
 use std::alloc::Global;
 use text_scan::first_char;
 
-/// The name as one word of a command, with `./` before one that begins with `-`. The shell reads the word back as the
-/// name.
+/// The name as one word of a command, with `./` before one that begins with `-`. The shell reads
+/// the word back as the name.
 pub fn quote(alloc: Global, name: &str) -> Result<Text, NoMemory>
     ensures quoted { IfOk result (λ word. word ≡ name_in_quotes name.now) }
     ensures read_back { IfOk result (λ word. shell_word word ≡ Some (as_operand name.now)) }
@@ -44,7 +44,8 @@ fn push_quoted(word: &mut String, text: &str) -> Result<(), NoMemory>
 
 /// Puts a character at the end, quoted where it isn't plain.
 fn push_character(word: &mut String, character: char) -> Result<(), NoMemory>
-    ensures { OnOk result (string_bytes word.new ≡ string_bytes word.old ++ quoted_bytes (encode_utf8 character)) }
+    ensures { OnOk result
+        (string_bytes word.new ≡ string_bytes word.old ++ quoted_bytes (encode_utf8 character)) }
 {
     match character {
         '\n' => word.push_str("'\n'")?,

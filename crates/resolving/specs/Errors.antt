@@ -19,7 +19,8 @@ abbrev pub CarriesCause : ResolveError → Type 0
 CarriesCause (Tree path e) = IsCause e
 CarriesCause e = ⊤
 
--- a tree's count of faults after what was read of it: one more where a fault is told, and as it was where none is
+-- a tree's count of faults after what was read of it: one more where a fault is told,
+-- and as it was where none is
 abbrev pub count_told : {A : Type 0} → ℕ → Result A ResolveError → ℕ
 count_told before (Err Fault) = one_more before
 count_told before answer = before

@@ -1,5 +1,7 @@
--- Typed paths that begin at HOME: a tilde stands for it, as in sh(1), where it is the whole path or a slash follows.
-use Rattle.std.specs.Prelude.{ℕ, Bool, true, ◌==◌, if◌then◌else◌, List, [], ◌∷◌, ◌++◌, codes, Option, Some, None}
+-- Typed paths that begin at HOME: a tilde stands for it, as in sh(1), where it is the whole
+-- path or a slash follows.
+use Rattle.std.specs.Prelude.{ℕ, Bool, true, ◌==◌, if◌then◌else◌, List}
+use Rattle.std.specs.Prelude.{[], ◌∷◌, ◌++◌, codes, Option, Some, None}
 use Rattle.mc_text.specs.Routes.{Route, path_text}
 use Rattle.text_scan.specs.Words.{behind_word}
 

@@ -17,7 +17,8 @@ end_of s wanted (GoesOn place) = walk_from s wanted place.links place.folder pla
 -- in a folder that was looked at the walk ends where nothing is ahead
 abbrev pub into_folder : Route → List (List ℕ) → ℕ → Course
 into_folder folder [] links = EndsAt folder
-into_folder folder (component ∷ rest) links = GoesOn (record { folder = folder; ahead = component ∷ rest; links = links })
+into_folder folder (component ∷ rest) links =
+    GoesOn (record { folder = folder; ahead = component ∷ rest; links = links })
 
 -- how many components may still come at most: the text of each link has fewer than 4,097
 abbrev pub way_from : Place → ℕ

@@ -1,6 +1,7 @@
--- The path that a text leads to (POSIX.1-2017, 4.13 Pathname Resolution, with SYMLOOP_MAX of 40, PATH_MAX of 4,096 and
--- NAME_MAX of 255).
-use Rattle.std.specs.Prelude.{ℕ, zero, suc, ◌≤◌, Bool, true, false, not, ◌||◌, nat_lt, if◌then◌else◌, List, [], ◌∷◌, ◌++◌, length, filter, Option, Some, None, is_some, Result, Ok, Err, ⊤}
+-- The path that a text leads to (POSIX.1-2017, 4.13 Pathname Resolution, with SYMLOOP_MAX of 40, PATH_MAX
+-- of 4,096 and NAME_MAX of 255).
+use Rattle.std.specs.Prelude.{ℕ, zero, suc, ◌≤◌, Bool, true, false, not, ◌||◌, nat_lt, if◌then◌else◌, List}
+use Rattle.std.specs.Prelude.{[], ◌∷◌, ◌++◌, length, filter, Option, Some, None, is_some, Result, Ok, Err, ⊤}
 use Rattle.std.specs.Str.{bytes_eq}
 use Rattle.mc_text.specs.declared.kind.Kind.{Kind}
 use Rattle.mc_text.specs.declared.kind.Kind.TheVariants.{File, Folder, Link, Other}
@@ -59,7 +60,8 @@ abbrev pub look_unless : Option ResolveError → FileSystem → Route → Result
 look_unless (Some e) s path = Err e
 look_unless None s path = look_at s path
 
--- One step: dot-dot leads to the folder above, which the root is itself, and any other component to the folder's entry.
+-- One step: dot-dot leads to the folder above, which the root is itself, and any other
+-- component to the folder's entry.
 abbrev pub step_from : FileSystem → Route → List ℕ → Result Step ResolveError
 step_from s folder component =
     if bytes_eq component (46 ∷ 46 ∷ []) then Ok (Up (holder folder)) else
@@ -95,15 +97,16 @@ end_in s wanted path = end_told (refusal_of s (Stat path)) wanted (node s (found
 
 -- the answer where a step is refused, and what to do where it isn't
 abbrev pub after_step : Result Step ResolveError → (into : Route → Result Route ResolveError)
-    (across : List ℕ → Result Route ResolveError) (onto : Route → Result Route ResolveError) → Result Route ResolveError
+    (across : List ℕ → Result Route ResolveError) (onto : Route → Result Route ResolveError)
+    → Result Route ResolveError
 after_step (Ok (Into path)) into across onto = into path
 after_step (Ok (Up path)) into across onto = into path
 after_step (Ok (Across text)) into across onto = across text
 after_step (Ok (Onto path)) into across onto = onto path
 after_step (Err e) into across onto = Err e
 
--- The walk along components, and what stands at its end. What is left is prefixed with a link's text, and `follow` walks on
--- from where that begins.
+-- The walk along components, and what stands at its end. What is left is prefixed with a link's text, and
+-- `follow` walks on from where that begins.
 abbrev pub walk_along : FileSystem → Wanted → (follow : Route → List (List ℕ) → Result Route ResolveError)
     → Route → List (List ℕ) → Result Route ResolveError
 walk_along s wanted follow folder [] = end_in s wanted folder

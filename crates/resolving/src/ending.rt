@@ -12,14 +12,16 @@ use mc_text::{Kind, Path};
 use std::alloc::Global;
 use tree_trait::{ReadTree, TreeError};
 
-/// Looks at what stands at a path at which a walk ends: a folder may, and other things only where any is wanted.
+/// Looks at what stands at a path at which a walk ends: a folder may, and other things
+/// only where any is wanted.
 pub fn end_in<T: ReadTree>(
     alloc: Global,
     tree: &mut T,
     wanted: Wanted,
     path: Path,
 ) -> Result<Path, ResolveError>
-    ensures answer { IfKnown (T.contents tree.old) (λ log. Answers (end_in (current log) wanted path) result) }
+    ensures answer { IfKnown (T.contents tree.old) (λ log.
+        Answers (end_in (current log) wanted path) result) }
     ensures same { T.contents tree.new ≡ T.contents tree.old }
     ensures cause { HasCause ResolveError.Fault (T.fault_count tree.old) (T.fault_count tree.new) result }
     ensures counts { T.fault_count tree.new ≡ count_told (T.fault_count tree.old) result }

@@ -3,8 +3,8 @@ use mc_text::{NoMemory, Path};
 use thiserror::Error;
 use tree_trait::TreeError;
 
-/// Why a text can't be resolved. `Tree` has the path that the tree refused, and why; it never has a fault or want of
-/// memory, which are errors of their own.
+/// Why a text can't be resolved. `Tree` has the path that the tree refused, and why; it never has a fault
+/// or want of memory, which are errors of their own.
 #[derive(Debug, Drop, Error)]
 pub enum ResolveError {
     #[error("{1}")]

@@ -8,8 +8,8 @@ use mc_text::{NoMemory, Path, Text};
 use std::alloc::Global;
 use text_scan::behind_word;
 
-/// A typed path, with the text of HOME in place of a tilde that is all of it, or all before its first slash. Where HOME is missing it
-/// stays as it was typed.
+/// A typed path, with the text of HOME in place of a tilde that is all of it, or all before its first
+/// slash. Where HOME is missing it stays as it was typed.
 pub fn with_home(alloc: Global, home: &Option<Path>, typed: &str) -> Result<Text, NoMemory>
     ensures { IfOk result (λ text. text ≡ with_home home.now typed.now) }
 {

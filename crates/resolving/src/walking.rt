@@ -25,7 +25,8 @@ pub enum Wanted {
     AnyThing,
 }
 
-/// The folder or the thing that a text leads to, from a folder on. Links are followed, the last one too, so it is none.
+/// The folder or the thing that a text leads to, from a folder on. Links are followed, the
+/// last one too, so it is none.
 pub fn resolve<T: ReadTree>(
     alloc: Global,
     tree: &mut T,
@@ -112,7 +113,8 @@ fn advance<T: ReadTree>(
         walk_from (current log) wanted place.links place.folder (component.now ∷ place.ahead)
         ≡ end_of (current log) wanted course)) }
     ensures refused { IfKnown (T.contents tree.old) (λ log. IfErr result (λ e.
-        Answers (walk_from (current log) wanted place.links place.folder (component.now ∷ place.ahead)) (Err e))) }
+        Answers (walk_from (current log) wanted place.links place.folder (component.now ∷ place.ahead))
+        (Err e))) }
     ensures nearer { IfOk result (λ course. way_of course ≤ way_from place) }
     ensures same { T.contents tree.new ≡ T.contents tree.old }
     ensures cause { HasCause ResolveError.Fault (T.fault_count tree.old) (T.fault_count tree.new) result }
@@ -146,7 +148,8 @@ fn advance<T: ReadTree>(
     }
 }
 
-/// How a walk goes on in a folder that was looked at: it ends there where nothing is ahead, without a second look.
+/// How a walk goes on in a folder that was looked at: it ends there where nothing is
+/// ahead, without a second look.
 fn goes_into(folder: Path, ahead: Ahead, links: u8) -> Course
     ensures { result ≡ into_folder folder ahead links }
 {

@@ -66,8 +66,8 @@ fn size_of(size: &str) -> (u16, u16) {
     (lines.parse().unwrap_or(0), columns.parse().unwrap_or(0))
 }
 
-/// What a pane shows: whether it is current and its shape, the title, the heading, the current name, how many names can't
-/// be shown, and its items.
+/// What a pane shows: whether it is current and its shape, the title, the heading, the current name, how
+/// many names can't be shown, and its items.
 fn pane_of(page: &mut Page, text: &str) -> Pane {
     let (kind, text) = two_fields(text, ';');
     let (title, text) = two_fields(text, ';');

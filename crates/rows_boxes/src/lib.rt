@@ -1,4 +1,5 @@
-//! Reads rows, each a box with keys or a box to be painted, and writes each with what the box answers or how the screen looks.
+//! Reads rows, each a box with keys or a box to be painted, and writes each with what the box answers
+//! or how the screen looks.
 #![tactic(auto)]
 
 mod answers;

@@ -16,8 +16,9 @@ pub fn walk(page: &mut Page, tree: &MemTree, scene: Scene) {
     }
 }
 
-/// The images of a crash after so many calls: all changes are kept, all but one, or none. Where none is kept the files that were
-/// written have each fill; where all are, too, if the session writes: a name may come to the disk before its bytes.
+/// The images of a crash after so many calls: all changes are kept, all but one, or none. Where none is
+/// kept the files that were written have each fill; where all are, too, if the session writes: a name may
+/// come to the disk before its bytes.
 fn walk_moment(page: &mut Page, tree: &MemTree, calls: u64, scene: Scene)
     requires { calls ≤ length tree.now.log.changes }
 {

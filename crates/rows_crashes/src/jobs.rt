@@ -1,4 +1,5 @@
-//! Jobs without a session: one that makes a link, those that set modes, and one that copies a folder, step by step.
+//! Jobs without a session: one that makes a link, those that set modes, and one that
+//! copies a folder, step by step.
 ghost use Rattle.std.specs.Prelude.{◌≡◌, ◌∷◌, [], IfOk};
 
 use crate::stepping::work_off;

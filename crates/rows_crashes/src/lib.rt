@@ -1,9 +1,12 @@
-//! Walks through every moment of twenty sessions, of which one deletes a file, one a folder, one copies a file, one copies it over another, one copies a link over a file, one deletes two files of which
-//! the first is left unsynced, one copies a file whose target is left so, and deletes the source, one makes a folder, one makes
-//! two of which the first is left unsynced, one makes a link, one sets a file's mode, one those of two files of which the first is left
-//! unsynced, one copies a folder with all that lies in it, one moves a file, one moves it over another, one moves a file whose folders are
-//! left unsynced, and deletes it where it went, one moves a folder with all that lies in it, one moves it likewise and deletes a file in it, and two move it onto a
-//! folder, where what stands is replaced or stays. It walks through the crash images of each: what is left then?
+//! Walks through every moment of twenty sessions, of which one deletes a file, one a folder, one copies a
+//! file, one copies it over another, one copies a link over a file, one deletes two files of which the
+//! first is left unsynced, one copies a file whose target is left so, and deletes the source, one makes a
+//! folder, one makes two of which the first is left unsynced, one makes a link, one sets a file's mode, one
+//! those of two files of which the first is left unsynced, one copies a folder with all that lies in it,
+//! one moves a file, one moves it over another, one moves a file whose folders are left unsynced, and
+//! deletes it where it went, one moves a folder with all that lies in it, one moves it likewise and deletes
+//! a file in it, and two move it onto a folder, where what stands is replaced or stays. It walks through
+//! the crash images of each: what is left then?
 #![tactic(auto)]
 
 mod images;

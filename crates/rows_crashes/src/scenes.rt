@@ -13,20 +13,23 @@ pub enum Scene {
     Overwriting,
     /// A link is copied over a file, which the answer to the question allows.
     LinkOver,
-    /// Two files are deleted. The sync after the first is refused, and so is that of its last steps; the second job makes it.
+    /// Two files are deleted. The sync after the first is refused, and so is that of its last steps;
+    /// the second job makes it.
     LeftFolder,
-    /// A file is copied. The sync after it came to its name is refused, and so is that of the last steps. The second job, which
-    /// deletes the source, makes it before that.
+    /// A file is copied. The sync after it came to its name is refused, and so is that of the last steps.
+    /// The second job, which deletes the source, makes it before that.
     LeftTarget,
     /// A folder is made.
     NewFolder,
-    /// Two folders are made. The sync after the first is refused, and so is that of its last steps; the second job makes it.
+    /// Two folders are made. The sync after the first is refused, and so is that of its last steps;
+    /// the second job makes it.
     LeftNewFolder,
     /// A link is made.
     NewLink,
     /// A file is given the mode 600.
     Mode,
-    /// Two files are given the mode 600. The sync of the first is refused, and so is that of its last steps; the second job makes it.
+    /// Two files are given the mode 600. The sync of the first is refused, and so is that of its last
+    /// steps; the second job makes it.
     LeftMode,
     /// A folder of mode 555 is copied with a file and a link in it.
     Tree,
@@ -34,16 +37,18 @@ pub enum Scene {
     Move,
     /// It is moved over another file, which the answer to the question allows.
     MoveOver,
-    /// A file is moved. The sync of its new folder is refused, and so are those of both folders in the last steps. The second job, which
-    /// deletes the file, makes both before that.
+    /// A file is moved. The sync of its new folder is refused, and so are those of both folders in the last
+    /// steps. The second job, which deletes the file, makes both before that.
     LeftMove,
     /// A folder is moved with a file and a link in it.
     FolderMove,
-    /// It is moved, and the syncs are refused likewise. The second job, which deletes the file in it, makes both before that.
+    /// It is moved, and the syncs are refused likewise. The second job, which deletes the file in
+    /// it, makes both before that.
     LeftFolderMove,
     /// It is moved onto a folder, which the answer to the question allows to replace a file there.
     Merge,
-    /// It is moved onto a folder where that file stays, so the link that would replace it stays, and the folder with it.
+    /// It is moved onto a folder where that file stays, so the link that would replace it
+    /// stays, and the folder with it.
     KeptMerge,
 }
 
@@ -161,7 +166,8 @@ const FOLDER_TO_MOVE: &str =
 
 /// The same folder, and one of its name, in which a file has the name of the link.
 const FOLDER_TO_MERGE: &str =
-    "folder /s 755\nfolder /t 755\nfolder /s/d 750\nfile /s/d/e 640 hello\nlink /s/d/l x\nfolder /t/d 711\nfile /t/d/l 600 old";
+    "folder /s 755\nfolder /t 755\nfolder /s/d 750\nfile /s/d/e 640 hello\nlink /s/d/l x\nfolder /t/d 711\n\
+     file /t/d/l 600 old";
 
 /// A session by keys: the folders of its panels, and the bytes of its keys.
 #[derive(Clone, Copy)]
@@ -218,16 +224,18 @@ const OVERWRITING: &[u8] = b"\x1b[B\x1b[15~\r\ry\x1b[21~";
 /// Down, F8, Enter, b in the box of the refused sync, F8, Enter, F10.
 const DELETING_BOTH: &[u8] = b"\x1b[B\x1b[19~\rb\x1b[19~\r\x1b[21~";
 
-/// The calls that are the first sync, and the one of the last steps. Before them comes the opening: for each panel a look at its
-/// path, a listing, and a look at each of two files; then a look of the key and one of the job, and the removal.
+/// The calls that are the first sync, and the one of the last steps. Before them comes the opening: for
+/// each panel a look at its path, a listing, and a look at each of two files; then a look of the key and
+/// one of the job, and the removal.
 const REFUSED_SYNCS: &[u64] = &[12, 13];
 
 /// Down, F5, Enter, Enter, b in the box of the refused sync, F8, Enter, F10.
 const COPYING_AND_DELETING: &[u8] = b"\x1b[B\x1b[15~\r\rb\x1b[19~\r\x1b[21~";
 
-/// The calls that are the sync after the renaming, and the one of the last steps. Before them comes the opening: for each panel a
-/// look at its path and a listing, and a look at the file; then three looks of the keys (at the file, at it again, and at the folder that
-/// was typed), three of the copy, and the part made, filled from what is read, synced and renamed.
+/// The calls that are the sync after the renaming, and the one of the last steps. Before them comes the
+/// opening: for each panel a look at its path and a listing, and a look at the file; then three looks of
+/// the keys (at the file, at it again, and at the folder that was typed), three of the copy, and the part
+/// made, filled from what is read, synced and renamed.
 const REFUSED_TARGET_SYNCS: &[u64] = &[17, 18];
 
 /// F7, n, Enter, F10.
@@ -236,12 +244,13 @@ const MAKING: &[u8] = b"\x1b[18~n\r\x1b[21~";
 /// F7, n, Enter, b in the box of the refused sync, F7, m, Enter, F10.
 const MAKING_BOTH: &[u8] = b"\x1b[18~n\rb\x1b[18~m\r\x1b[21~";
 
-/// The calls that are the sync after the making, and the one of the last steps. Before them comes the opening: for each panel a look at
-/// its path and a listing; then the key's looks at the folder and at the path in it, and the making.
+/// The calls that are the sync after the making, and the one of the last steps. Before them comes the
+/// opening: for each panel a look at its path and a listing; then the key's looks at the folder and at the
+/// path in it, and the making.
 const REFUSED_FOLDER_SYNCS: &[u64] = &[8, 9];
 
-/// The calls that are the sync of the file, and the one of the last steps. Before the first come the setting and a look, and another look
-/// between them.
+/// The calls that are the sync of the file, and the one of the last steps. Before the first come the
+/// setting and a look, and another look between them.
 const REFUSED_FILE_SYNCS: &[u64] = &[3, 5];
 
 /// Down, F6, Enter at the mask, Enter at the target, F10.
@@ -259,6 +268,7 @@ const MOVING_AND_DELETING: &[u8] = b"\x1b[B\x1b[17~\r\rb\t\x1b[B\x1b[19~\r\x1b[2
 /// The same, but before F8 Enter to go into the moved folder, and Down.
 const MOVING_AND_DELETING_IN_IT: &[u8] = b"\x1b[B\x1b[17~\r\rb\t\x1b[B\r\x1b[B\x1b[19~\r\x1b[21~";
 
-/// The calls that are the sync of the target's folder after the renaming, and in the last steps that one again and the sync of the source's
-/// folder. Before them comes what comes before the looks of a copy, eight calls; then two looks of the job, and the renaming.
+/// The calls that are the sync of the target's folder after the renaming, and in the last steps that one
+/// again and the sync of the source's folder. Before them comes what comes before the looks of a copy,
+/// eight calls; then two looks of the job, and the renaming.
 const REFUSED_MOVE_SYNCS: &[u64] = &[12, 13, 14];

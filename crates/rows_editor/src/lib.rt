@@ -1,4 +1,5 @@
-//! Plays scripts on short texts, row by row, and writes what stands after each command; then what comes of the limits.
+//! Plays scripts on short texts, row by row, and writes what stands after each command; then
+//! what comes of the limits.
 #![tactic(auto)]
 
 mod commands;
@@ -7,7 +8,8 @@ mod scripts;
 
 use rows_page::{Page, two_fields};
 
-/// Each row, a text and the commands that are played on it, with what stands after each command; then a line for each limit.
+/// Each row, a text and the commands that are played on it, with what stands after each command;
+/// then a line for each limit.
 pub fn tell_rows(page: &mut Page, rows: &str) {
     for row in rows.lines() {
         let (text, script) = two_fields(row, ';');

@@ -1,4 +1,5 @@
-//! Scripts that are played, and texts as a row spells them: `/` is a newline, `>` a tab, and `!` a byte that is no text.
+//! Scripts that are played, and texts as a row spells them: `/` is a newline, `>` a tab, and
+//! `!` a byte that is no text.
 use crate::commands::command_of;
 use mc_edit::{EditCmd, Editor};
 use rows_page::Page;

@@ -28,8 +28,8 @@ pub fn tell_images(page: &mut Page, tree: &MemTree, original: &Original) {
     tell_seen(page, &seen);
 }
 
-/// The images of a crash after so many calls: all, none, and all but one of the changes are kept, each with all fills of
-/// what was written.
+/// The images of a crash after so many calls: all, none, and all but one of the changes are kept, each with
+/// all fills of what was written.
 fn see_moment(page: &mut Page, tree: &MemTree, calls: u64, original: &Original, seen: &mut Seen)
     requires { calls ≤ length tree.now.log.changes }
 {

@@ -1,5 +1,5 @@
-//! Whether a tree is safe: the target is missing or whole, the source is as it was, and nothing else stands in the target's
-//! folder but parts of the job.
+//! Whether a tree is safe: the target is missing or whole, the source is as it was, and nothing else stands
+//! in the target's folder but parts of the job.
 use crate::scene::{FOLDER, Original, SOURCE, TARGET};
 use mc_text::{Kind, Name, Path};
 use rows_page::Page;

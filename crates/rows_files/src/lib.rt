@@ -1,4 +1,5 @@
-//! Rows of copies and saves of one file over the tree in memory: what each step reports, and what each crash leaves.
+//! Rows of copies and saves of one file over the tree in memory: what each step reports,
+//! and what each crash leaves.
 #![tactic(auto)]
 
 mod copies;

@@ -10,7 +10,8 @@ use mem_tree::MemTree;
 use rows_page::Page;
 use tree_trait::Tree;
 
-/// A copy: of a file of this size and mode, onto a mount with so much room, where the tree's call of this number faults.
+/// A copy: of a file of this size and mode, onto a mount with so much room, where the tree's
+/// call of this number faults.
 #[derive(Clone, Copy)]
 struct Row {
     title: &'static str,
@@ -35,8 +36,8 @@ impl Row {
     }
 }
 
-/// The rows that are copied into an empty folder. The tree's calls of a copy of one chunk are: five looks, the making of the
-/// part, a read, a write, the sync of the part, its renaming, and the sync of the folder.
+/// The rows that are copied into an empty folder. The tree's calls of a copy of one chunk are: five looks,
+/// the making of the part, a read, a write, the sync of the part, its renaming, and the sync of the folder.
 fn rows() -> [Row; 10] {
     [
         Row::plain("an empty file of mode 640", 0, 0o640),

@@ -7,8 +7,8 @@ use mem_tree::{Choice, Fill, MemTree};
 use rows_page::Page;
 use tree_trait::{Meta, ReadTree, TreeError};
 
-/// After each number of calls, what stands at the target in each image: all that waits stands, none of it does, or all but one change, each with
-/// all fills of what was written.
+/// After each number of calls, what stands at the target in each image: all that waits stands, none of it
+/// does, or all but one change, each with all fills of what was written.
 pub fn tell_images(page: &mut Page, tree: &MemTree, new: &[u8]) {
     for calls in 0..=tree.calls() {
         page.tell(format_args!("  after {calls} calls: "));

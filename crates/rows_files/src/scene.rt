@@ -44,7 +44,8 @@ pub fn fresh(alloc: Global) -> Result<MemTree, NoMemory>
     MemTree::new(alloc, 0)
 }
 
-/// Plants the source, and a folder for the target. With `room` a mount begins there whose files may have so many bytes.
+/// Plants the source, and a folder for the target. With `room` a mount begins there whose
+/// files may have so many bytes.
 pub fn plant(page: &mut Page, tree: &mut MemTree, original: &Original, room: Option<u64>)
     requires unused { tree.old.log.changes ≡ [] }
     requires few { length tree.old.log.opening.mounts < 1000 }

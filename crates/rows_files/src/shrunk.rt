@@ -3,8 +3,8 @@ use mc_text::{Path, Text};
 use std::alloc::Global;
 use tree_trait::{Children, Meta, ReadTree, Tree, TreeError};
 
-/// A tree that says what size its files have, but gives no byte of them from `end` on. It tells nothing of what it holds: that
-/// would be a lie.
+/// A tree that says what size its files have, but gives no byte of them from `end` on. It tells nothing of
+/// what it holds: that would be a lie.
 #[derive(Drop)]
 pub struct Shrunk<T> {
     inner: T,

@@ -31,8 +31,8 @@ fn tell_search<T: Tree>(page: &mut Page, tree: &mut T, row: &str) {
     }
 }
 
-/// The search that is spelled. Its ways are words: `deep` goes into folders, `hidden` meets hidden names, `regex` makes the
-/// pattern a regular expression.
+/// The search that is spelled. Its ways are words: `deep` goes into folders, `hidden` meets hidden names,
+/// `regex` makes the pattern a regular expression.
 fn finder_of(
     page: &mut Page,
     start: &str,

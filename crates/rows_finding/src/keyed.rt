@@ -18,7 +18,8 @@ const COLUMNS: u16 = 40;
 /// The most steps of a search.
 const STEPS: usize = 100_000;
 
-/// The screen behind the words of a row: from which folder, how, and keys, where `step` is a step of the search, and `run` are all.
+/// The screen behind the words of a row: from which folder, how, and keys, where `step` is a step of the
+/// search, and `run` are all.
 pub fn tell_key_row<T: Tree>(page: &mut Page, tree: &mut T, row: &str) {
     let (folder, fields) = two_fields(row, '|');
     let (ways, words) = two_fields(fields, '|');
@@ -50,7 +51,8 @@ fn kind_of(ways: &str) -> PatternKind {
     }
 }
 
-/// Works each word, and shows the screen. What a key comes to stands before it, but where it is only asked or sought on.
+/// Works each word, and shows the screen. What a key comes to stands before it, but where it is
+/// only asked or sought on.
 fn tell_worked<T: Tree>(page: &mut Page, tree: &mut T, mode: &mut FindMode, words: &str) {
     for word in words.split(' ') {
         match word {

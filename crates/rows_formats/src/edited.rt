@@ -58,8 +58,8 @@ fn tell_bytes(page: &mut Page, bytes: &[u8]) {
     }
 }
 
-/// A text, a place, and bytes: where they are found from the place on, with the point at each place of the text. An
-/// answer is told where it isn't that of the point before.
+/// A text, a place, and bytes: where they are found from the place on, with the point at each place of the
+/// text. An answer is told where it isn't that of the point before.
 fn tell_found(page: &mut Page, fields: &str) {
     let (text, fields) = two_fields(fields, '|');
     let (from, bytes) = two_fields(fields, '|');
@@ -119,7 +119,8 @@ fn tell_between(page: &mut Page, text: GapText, point: usize, from: usize, to: u
     page.tell(format_args!(" {}", char::from(text.byte_at(from))));
 }
 
-/// A depth, and steps: the number of a change that is noted, `undo` or `redo`. Told is which change each of these shows.
+/// A depth, and steps: the number of a change that is noted, `undo` or `redo`. Told is which
+/// change each of these shows.
 fn tell_undone(page: &mut Page, fields: &str) {
     let (depth, steps) = two_fields(fields, '|');
     match Undo::new(page.alloc(), number(depth).max(1)) {

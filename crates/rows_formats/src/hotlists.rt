@@ -121,8 +121,8 @@ fn place_of(page: &mut Page, field: &str) -> Vec<usize> {
     place
 }
 
-/// Changes with `;` between each two, and the file of the list at the start. Told is what each change answers, and the
-/// list at the end.
+/// Changes with `;` between each two, and the file of the list at the start. Told is what each change
+/// answers, and the list at the end.
 fn tell_edited(page: &mut Page, fields: &str) {
     let (changes, file) = two_fields(fields, '|');
     let Ok(file) = file_of(page.alloc(), file) else {

@@ -1,5 +1,5 @@
-//! Reads rows, and writes each with what the libraries make of it: macros, extension files, hotlists, patterns, tags, and the
-//! text of an editor.
+//! Reads rows, and writes each with what the libraries make of it: macros, extension files, hotlists,
+//! patterns, tags, and the text of an editor.
 #![tactic(auto)]
 
 mod edited;

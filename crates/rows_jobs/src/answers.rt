@@ -1,4 +1,5 @@
-//! Reads rows, and writes each with what comes of it: what is asked of items, and what answers to questions and troubles decide.
+//! Reads rows, and writes each with what comes of it: what is asked of items, and what answers to
+//! questions and troubles decide.
 
 use crate::asked::Asked;
 use rows_page::Page;

@@ -2,9 +2,10 @@
 
 use rows_page::Page;
 
-/// Each row with what comes of it: what stands at `/a/x` (`file`, `folder`, `link` or `none`), its mode, the mode that it is given, the numbers of
-/// the tree's calls that fault, and what is answered to a trouble (`retry`, `skip`, `abort`, or `all`: the step is made again, and passes over
-/// what meets a trouble of the same kind).
+/// Each row with what comes of it: what stands at `/a/x` (`file`, `folder`, `link` or `none`), its mode,
+/// the mode that it is given, the numbers of the tree's calls that fault, and what is answered to a
+/// trouble (`retry`, `skip`, `abort`, or `all`: the step is made again, and passes over what meets a
+/// trouble of the same kind).
 pub fn tell_settings(page: &mut Page, rows: &str) {
     for row in rows.lines() {
         page.put(row);

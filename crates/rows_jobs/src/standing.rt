@@ -26,7 +26,8 @@ impl Standing {
         self.replies.skips().passes_over(trouble)
     }
 
-    /// Takes an answer, and says what the job does then. An answer that isn't taken changes nothing. It takes no memory.
+    /// Takes an answer, and says what the job does then. An answer that isn't taken changes
+    /// nothing. It takes no memory.
     pub fn answer(
         &mut self,
         waiting: Option<Waiting>,

@@ -4,8 +4,8 @@ use mc_text::Bits;
 use mem_tree::{Choice, Fill, MemTree};
 use rows_page::{Page, number, two_fields};
 
-/// A line for each row: a number of changing calls, a digit for each pending change (1 where it is kept), `then`, and a
-/// call; and what the call answers in the image.
+/// A line for each row: a number of changing calls, a digit for each pending change (1 where it is kept),
+/// `then`, and a call; and what the call answers in the image.
 pub fn tell_crashes(page: &mut Page, tree: &MemTree, rows: &str) {
     for row in rows.lines() {
         page.put(row);

@@ -1,4 +1,5 @@
-//! Makes calls on trees in memory, and writes what each answers; then what the other devices in memory answer.
+//! Makes calls on trees in memory, and writes what each answers; then what the other
+//! devices in memory answer.
 #![tactic(auto)]
 
 mod calls;

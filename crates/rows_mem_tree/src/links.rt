@@ -6,8 +6,8 @@ use rows_page::Page;
 use std::alloc::Global;
 use tree_trait::{Tree, TreeError};
 
-/// Plants three folders, each with a link and a folder: one with a file, one that may not be changed, and one that may not
-/// be searched.
+/// Plants three folders, each with a link and a folder: one with a file, one that may not be changed, and
+/// one that may not be searched.
 pub fn plant_links<T: Tree>(page: &mut Page, tree: &mut T) {
     plant(page, tree, "/dir", "/dir/link", "/dir/folder");
     plant(page, tree, "/fixed", "/fixed/link", "/fixed/folder");

@@ -1,4 +1,5 @@
-//! What is known of a panel, as a row gives it: kind, mode, whether names are tagged, folder and name of the current thing.
+//! What is known of a panel, as a row gives it: kind, mode, whether names are tagged, folder and
+//! name of the current thing.
 use mc_text::{Kind, Path, Text};
 use rows_page::two_fields;
 use std::alloc::Global;

@@ -102,7 +102,8 @@ fn rows_of(page: &mut Page, jobs: &str) -> JobRows {
     JobRows(rows)
 }
 
-/// A job: its number, what it is at, what it does, its path. A trouble is at that path, too, and so is the target of a question.
+/// A job: its number, what it is at, what it does, its path. A trouble is at that path, too, and so is
+/// the target of a question.
 fn row_of(page: &mut Page, job: &str) -> Option<JobRow> {
     let (number, rest) = two_fields(job, ' ');
     let (state, rest) = two_fields(rest, ' ');

@@ -1,5 +1,5 @@
-//! Reads menus, row by row, and writes what each holds, or which of its entries are shown; and lists of jobs with keys, and what these
-//! come to.
+//! Reads menus, row by row, and writes what each holds, or which of its entries are shown; and lists of
+//! jobs with keys, and what these come to.
 #![tactic(auto)]
 
 mod facts;
@@ -20,8 +20,8 @@ pub fn tell_rows(page: &mut Page, rows: &str) {
     }
 }
 
-/// Programs are looked for in a tree with the file `run`, which may be run, the file `plain`, which may not, a folder, and a
-/// link to `run`.
+/// Programs are looked for in a tree with the file `run`, which may be run, the file `plain`, which may
+/// not, a folder, and a link to `run`.
 fn tell_rows_in<T: Tree>(page: &mut Page, tree: &mut T, rows: &str) {
     plant(page, tree, "folder /p\nfolder /p/q\nfolder /p/q/box");
     plant_file(page, tree, "/p/q/run", 0o755);

@@ -32,7 +32,8 @@ pub fn tell_repeated(page: &mut Page, field: &str) {
     tell_last(page, &bytes, true);
 }
 
-/// For each prefix of a file a line: its length, and the number of its entries and the last one, or why it holds no menu.
+/// For each prefix of a file a line: its length, and the number of its entries and the last one,
+/// or why it holds no menu.
 pub fn tell_cuts(page: &mut Page, field: &str) {
     let (kind, file) = two_fields(field, '|');
     let bytes = bytes_of(page, file);
@@ -67,7 +68,8 @@ fn tell_entries(page: &mut Page, menu: &Menu) {
     }
 }
 
-/// A title, and in brackets the command lines, with a slash between two. A carriage return in the title is spelled.
+/// A title, and in brackets the command lines, with a slash between two. A carriage return
+/// in the title is spelled.
 fn tell_entry(page: &mut Page, menu: &Menu, entry: usize)
     requires { entry < length menu.now }
 {

@@ -1,4 +1,5 @@
-//! The page on which a program of rows writes what each row comes to, and the program that runs the rows of its libraries section by section.
+//! The page on which a program of rows writes what each row comes to, and the program that runs the rows of
+//! its libraries section by section.
 #![tactic(auto)]
 
 mod fault;

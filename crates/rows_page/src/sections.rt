@@ -1,5 +1,5 @@
-//! A program of rows: it runs the rows of its libraries section by section. The rows stand in `stdin`, each section behind a line
-//! with two signs `=` and its name; what is expected of them stands in `stdout`.
+//! A program of rows: it runs the rows of its libraries section by section. The rows stand in `stdin`, each
+//! section behind a line with two signs `=` and its name; what is expected of them stands in `stdout`.
 
 use crate::fault::Fault;
 use crate::fields::two_fields;

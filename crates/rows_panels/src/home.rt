@@ -6,8 +6,8 @@ use mem_tree::MemTree;
 use rows_page::Page;
 use rows_trees::put_link;
 
-/// So many things in a folder, in turn: a hidden file, a file with a wide name, a link to `work`, a link that leads nowhere,
-/// and a file. Many have one size.
+/// So many things in a folder, in turn: a hidden file, a file with a wide name, a link to `work`, a link
+/// that leads nowhere, and a file. Many have one size.
 pub fn put_home(page: &mut Page, tree: &mut MemTree, folder: &str, count: usize)
     requires { tree.old.log.changes ≡ [] }
     ensures { tree.new.log.changes ≡ [] }

@@ -1,4 +1,5 @@
-//! Rows of what panels read: where typed texts lead, listings of folders, and commands on two panels, over trees in memory.
+//! Rows of what panels read: where typed texts lead, listings of folders, and commands on two
+//! panels, over trees in memory.
 #![tactic(auto)]
 
 mod commands;

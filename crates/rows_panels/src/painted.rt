@@ -8,8 +8,8 @@ use std::convert::AsStr;
 use tagging::Tags;
 use tree_trait::Tree;
 
-/// What a panel shows of a folder: the window (its first row, its rows, its columns, the second), a name that is tagged, and the
-/// format stand in the fields.
+/// What a panel shows of a folder: the window (its first row, its rows, its columns, the second), a name
+/// that is tagged, and the format stand in the fields.
 pub fn tell_painted<T: Tree>(page: &mut Page, tree: &mut T, fields: &str) {
     let (folder, fields) = two_fields(fields, '|');
     let (window, fields) = two_fields(fields, '|');

@@ -10,8 +10,8 @@ use rows_page::{Page, two_fields};
 use rows_trees::{Blocks, tell_blocks};
 use tree_trait::Tree;
 
-/// Each block of rows with what comes of it. Before a line `opened` stands what is on its disk, and behind it the folders of both
-/// panels.
+/// Each block of rows with what comes of it. Before a line `opened` stands what is on its disk, and behind
+/// it the folders of both panels.
 pub fn tell_pairs(page: &mut Page, blocks: &str) {
     tell_blocks::<PairBlocks>(page, blocks);
 }

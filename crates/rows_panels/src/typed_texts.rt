@@ -8,7 +8,8 @@ use rows_page::{Page, repeated, two_fields};
 use std::convert::AsStr;
 use tree_trait::Tree;
 
-/// Each row with what both calls make of it: the folder where it begins, and the text. Then what stops at a limit.
+/// Each row with what both calls make of it: the folder where it begins, and the text.
+/// Then what stops at a limit.
 pub fn tell_resolving(page: &mut Page, rows: &str) {
     match MemTree::new(page.alloc(), 0) {
         Ok(mut tree) => tell_in(page, &mut tree, rows),

@@ -1,4 +1,5 @@
-//! Reads rows, and writes each with what comes of it: plans of requests, claims of jobs, and claims that clash.
+//! Reads rows, and writes each with what comes of it: plans of requests, claims of
+//! jobs, and claims that clash.
 #![tactic(auto)]
 
 mod fields;

@@ -87,8 +87,8 @@ fn tell_after_removal<T: Tree>(page: &mut Page, tree: &mut T, fields: &str) {
     tell_planned(page, tree, row);
 }
 
-/// A file is copied to a name of so many letters in a folder whose path has 3,842 bytes; and a folder of that name is made
-/// there.
+/// A file is copied to a name of so many letters in a folder whose path has 3,842 bytes; and a folder of
+/// that name is made there.
 fn tell_in_deep_folder<T: Tree>(page: &mut Page, tree: &mut T, letters: usize) {
     let name = repeated(page.alloc(), "n", letters);
     let folder = plant_deep(page, tree);
@@ -101,8 +101,8 @@ fn tell_in_deep_folder<T: Tree>(page: &mut Page, tree: &mut T, letters: usize) {
     tell_planned(page, tree, made.text());
 }
 
-/// Plants the folders, the files, the links, a file whose name has 130 letters, and takes all rights away from `/shut`.
-/// Gives the number of calls.
+/// Plants the folders, the files, the links, a file whose name has 130 letters, and takes all rights away
+/// from `/shut`. Gives the number of calls.
 fn plant<T: Tree>(page: &mut Page, tree: &mut T) -> u64 {
     let mut calls = 2u64;
     for folder in FOLDERS.lines() {

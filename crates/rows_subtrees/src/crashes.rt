@@ -30,8 +30,8 @@ fn tell_moments(page: &mut Page, tree: &MemTree, path: &Path) {
     }
 }
 
-/// What may be left after so many calls, each once: where no change is kept that no sync has settled, where all are but one, and where
-/// all are.
+/// What may be left after so many calls, each once: where no change is kept that no sync has settled, where
+/// all are but one, and where all are.
 fn left_after(alloc: Global, tree: &MemTree, calls: u64, path: &Path) -> Page
     requires { calls ≤ length tree.now.log.changes }
 {

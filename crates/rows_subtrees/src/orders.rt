@@ -9,8 +9,8 @@ use tree_trait::Tree;
 pub struct Orders<'a> {
     pub source: &'a str,
     pub target: &'a str,
-    /// A letter for each trouble: `r` tries again, `s` leaves the thing as it is, `a` whatever comes into such a trouble; and for each
-    /// question the letter of its box. Where none is left the copy is aborted.
+    /// A letter for each trouble: `r` tries again, `s` leaves the thing as it is, `a` whatever comes into
+    /// such a trouble; and for each question the letter of its box. Where none is left the copy is aborted.
     pub answers: &'a str,
     /// The copy is aborted after so many steps.
     pub abort: &'a str,

@@ -7,7 +7,8 @@ use rows_page::{Page, number, two_fields};
 use rows_trees::{Things, mode_of, put_file, put_folder};
 use std::alloc::Global;
 
-/// Makes the folder `/t`, and lets a mount begin there whose files may have so many bytes, if that is spelled.
+/// Makes the folder `/t`, and lets a mount begin there whose files may have so many
+/// bytes, if that is spelled.
 pub fn put_mount(page: &mut Page, tree: &mut MemTree, room: &str)
     requires unused { tree.old.log.changes ≡ [] }
     requires few { length tree.old.log.opening.mounts < 1000 }

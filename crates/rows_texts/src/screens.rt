@@ -1,4 +1,5 @@
-//! Rows of screens. What is written stands as `ROW COLUMN ATTRIBUTE TEXT`, one behind the other with `;` between them.
+//! Rows of screens. What is written stands as `ROW COLUMN ATTRIBUTE TEXT`, one behind the
+//! other with `;` between them.
 use crate::fields::text_of;
 use key_screen::{Attr, Grid, GridError, read_grid};
 use rows_page::{Page, bytes_of, number, two_fields};

@@ -1,5 +1,5 @@
-//! Trees for rows: what is to stand in them is spelled line by line. What can't be made is noted on the page. And what the steps of a job
-//! report, in words.
+//! Trees for rows: what is to stand in them is spelled line by line. What can't be made is noted on the
+//! page. And what the steps of a job report, in words.
 #![tactic(auto)]
 
 mod blocks;

@@ -9,8 +9,9 @@ use rows_page::{Page, two_fields};
 use std::alloc::Global;
 use tree_trait::Tree;
 
-/// Makes what each line spells: behind `folder ` a folder of mode 0o755, behind `file ` an empty file of mode 0o644, behind
-/// `link ` a link, with an arrow between its path and its text. Gives the number of calls.
+/// Makes what each line spells: behind `folder ` a folder of mode 0o755, behind `file ` an
+/// empty file of mode 0o644, behind `link ` a link, with an arrow between its path and its
+/// text. Gives the number of calls.
 pub fn plant<T: Tree>(page: &mut Page, tree: &mut T, lines: &str) -> u64 {
     let mut calls = 0u64;
     for line in lines.lines() {

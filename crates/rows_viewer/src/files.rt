@@ -38,7 +38,8 @@ pub fn remove<T: Tree>(page: &mut Page, tree: &mut T) {
     }
 }
 
-/// The bytes of a field. Between signs `+` stand its parts, and behind a number and a `*` one that is repeated so often.
+/// The bytes of a field. Between signs `+` stand its parts, and behind a number and a `*` one
+/// that is repeated so often.
 pub fn bytes_spelled(page: &mut Page, field: &str) -> Vec<u8> {
     let mut bytes = Vec::new(page.alloc());
     for part in field.split('+') {

@@ -21,7 +21,8 @@ pub fn tell_keyed<T: Tree>(page: &mut Page, tree: &mut T, path: &Path, columns: 
     }
 }
 
-/// Works each key, and shows the screen. What a key comes to stands before it, but where the file is only viewed on.
+/// Works each key, and shows the screen. What a key comes to stands before it, but where
+/// the file is only viewed on.
 fn tell_worked<T: Tree>(
     page: &mut Page,
     tree: &mut T,

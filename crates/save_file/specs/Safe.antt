@@ -1,5 +1,6 @@
--- What is known of the tree while a file is saved, beside that it is guarded: where the part stands and what it holds, and that the target is as
--- it was. A save that asks this of the tree leaves its target as it was or whole, whenever a crash comes.
+-- What is known of the tree while a file is saved, beside that it is guarded: where the part stands and
+-- what it holds, and that the target is as it was. A save that asks this of the tree leaves its target as
+-- it was or whole, whenever a crash comes.
 use Rattle.std.specs.Prelude.{◌≡◌, ℕ, ⊤, true, ◌&&◌, not, ◌==◌, List, length, take, Option, Some, None}
 use Rattle.mc_text.specs.Routes.{Route}
 use Rattle.mc_text.specs.declared.kind.Kind.TheVariants.{File}
@@ -23,7 +24,8 @@ pub record HasPart (marks : Marks) (log : CallLog) (path : Route) (i : ℕ) : Ty
   pub bare : (m : List ℕ) (y : Option ℕ) → MayLead log i m y → y ≡ None
 
 -- it holds the first bytes, and has the mode that it was made with
-pub record IsFilled (marks : Marks) (log : CallLog) (path : Route) (i : ℕ) (bytes : List ℕ) (mode : ℕ) : Type 0 where
+pub record IsFilled (marks : Marks) (log : CallLog) (path : Route) (i : ℕ) (bytes : List ℕ)
+    (mode : ℕ) : Type 0 where
   pub part : HasPart marks log path i
   pub holds : Holds (node (current log) i) bytes (part_mode mode)
 
@@ -59,7 +61,8 @@ abbrev pub saved_value : List ℕ → ℕ → Value
 saved_value bytes mode = record { kind = File; bytes = bytes; mode = mode; unnamed = 0 }
 
 -- the file stands at its target, with its bytes and its mode, and these are on the disk
-pub record IsPlaced (marks : Marks) (log : CallLog) (target : Route) (i : ℕ) (bytes : List ℕ) (mode : ℕ) : Type 0 where
+pub record IsPlaced (marks : Marks) (log : CallLog) (target : Route) (i : ℕ) (bytes : List ℕ)
+    (mode : ℕ) : Type 0 where
   pub guarded : IsGuarded (with_firm marks i) log
   pub leads : find (current log) target ≡ Some i
   pub holds : Holds (node (current log) i) bytes mode

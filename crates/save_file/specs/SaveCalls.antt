@@ -17,31 +17,41 @@ use Rattle.copy_file.specs.PartNames.{IsFirstFree, part_path}
 use Rattle.save_file.specs.Looking.{LookStops, TakesMode}
 use Rattle.save_file.specs.Saving.{Saving, chunk_at}
 
--- The trouble before the part stands: of a look, or of the part's name or making, with the mode that the file takes.
+-- The trouble before the part stands: of a look, or of the part's name or making, with the
+-- mode that the file takes.
 abbrev pub BeginStops : (Route → Type 0) → Saving → Cause → Option Route → CallLog → Option CallLog → Type 0
 BeginStops unclaimed s cause path log after =
     (LookStops (current log) s.copy.target cause path × (after ≡ Some log))
-    ⊎ ((mode : ℕ) × TakesMode (current log) s.copy.target mode × PartStops unclaimed (places_of s.copy) mode cause path log after)
+    ⊎ ((mode : ℕ) × TakesMode (current log) s.copy.target mode
+    × PartStops unclaimed (places_of s.copy) mode cause path log after)
 
 -- the trouble of a step, by where the save stands
-abbrev pub SaveStops : (Route → Type 0) → Saving → Stage → Cause → Option Route → CallLog → Option CallLog → Type 0
+abbrev pub SaveStops : (Route → Type 0) → Saving → Stage → Cause → Option Route → CallLog
+    → Option CallLog → Type 0
 SaveStops unclaimed s Begin cause path log after = BeginStops unclaimed s cause path log after
 SaveStops unclaimed s (Fill part facts done) cause path log after =
     ((done < facts.size) × RunStops (WriteAt part done (chunk_at s.bytes done) ∷ []) cause path log after)
     ⊎ ((done ≡ facts.size) × RunStops (placing facts.mode part s.copy.target) cause path log after)
-SaveStops unclaimed s (Clean part follows) cause path log after = RunStops (RemoveFile part ∷ []) cause path log after
+SaveStops unclaimed s (Clean part follows) cause path log after =
+    RunStops (RemoveFile part ∷ []) cause path log after
 SaveStops unclaimed s (Left part) cause path log after = ⊥
-SaveStops unclaimed s Decided cause path log after = RunStops (SyncFolder (folder_of s.copy.target) ∷ []) cause path log after
+SaveStops unclaimed s Decided cause path log after =
+    RunStops (SyncFolder (folder_of s.copy.target) ∷ []) cause path log after
 
--- What a step says of the tree's calls: a part was made with the mode that the file takes, or the next bytes were written to it; placing it,
--- its removal and the sync are those of a copy; a trouble is the refusal of what came next.
+-- What a step says of the tree's calls: a part was made with the mode that the file takes, or the next
+-- bytes were written to it; placing it, its removal and the sync are those of a copy; a trouble is the
+-- refusal of what came next.
 abbrev pub SaveCalls : (Route → Type 0) → Saving → Did → Saving → CallLog → Option CallLog → Type 0
 SaveCalls unclaimed s (Began part) new log after =
     (mode : ℕ) × TakesMode (current log) s.copy.target mode
-    × (new.copy.stage ≡ (let facts : SourceFacts = record { size = length s.bytes; mode = mode } in Fill part facts 0))
-    × ((k : ℕ) × (part ≡ part_path (places_of s.copy) k) × IsFirstFree (current log) unclaimed (places_of s.copy) k × AllDone log (making_with mode (places_of s.copy) k ∷ []) after)
+    × (new.copy.stage
+    ≡ (let facts : SourceFacts = record { size = length s.bytes; mode = mode } in Fill part facts 0))
+    × ((k : ℕ) × (part ≡ part_path (places_of s.copy) k) × IsFirstFree (current log) unclaimed
+    (places_of s.copy) k × AllDone log (making_with mode (places_of s.copy) k ∷ []) after)
 SaveCalls unclaimed s (Chunk count) new log after =
     (part : Route) × (facts : SourceFacts) × (done : ℕ) × (s.copy.stage ≡ Fill part facts done)
-    × (count ≡ length (chunk_at s.bytes done)) × AllDone log (WriteAt part done (chunk_at s.bytes done) ∷ []) after
-SaveCalls unclaimed s (Troubled trouble) new log after = SaveStops unclaimed s s.copy.stage trouble.cause trouble.path log after
+    × (count ≡ length (chunk_at s.bytes done))
+    × AllDone log (WriteAt part done (chunk_at s.bytes done) ∷ []) after
+SaveCalls unclaimed s (Troubled trouble) new log after =
+    SaveStops unclaimed s s.copy.stage trouble.cause trouble.path log after
 SaveCalls unclaimed s did new log after = CopyCalls unclaimed s.copy did new.copy log after

@@ -16,9 +16,11 @@ use Rattle.copy_file.specs.LastSteps as last_steps
 use Rattle.save_file.specs.SaveCalls.{SaveCalls}
 use Rattle.save_file.specs.Saving.{IsOwn, Saving}
 
--- A step of a save: it reports what a copy may, and the save is then as that says; it made the calls of the tree that it says, at most three of
--- which change the tree, and it reports a fault only where the tree's count has risen. Work leaves fewer steps to be made.
-pub record StepsOn (unclaimed : Route → Type 0) (old new : Saving) (did : Did) (calls : ℕ) (before after : Option CallLog) (faults faults_after : ℕ) : Type 0 where
+-- A step of a save: it reports what a copy may, and the save is then as that says; it made the calls of the
+-- tree that it says, at most three of which change the tree, and it reports a fault only where the tree's
+-- count has risen. Work leaves fewer steps to be made.
+pub record StepsOn (unclaimed : Route → Type 0) (old new : Saving) (did : Did) (calls : ℕ)
+    (before after : Option CallLog) (faults faults_after : ℕ) : Type 0 where
   pub tells : Tells old.copy did new.copy
   pub bytes : new.bytes ≡ old.bytes
   pub own : IsOwn new
@@ -37,7 +39,8 @@ pub record Skips (cause : Cause) (old : Saving) (did : Did) (new : Saving) : Typ
   pub own : IsOwn new
 
 -- a last step, which is that of a copy and keeps the bytes
-pub record WindsOn (ending : Ending) (old new : Saving) (did : Did) (calls : ℕ) (left : Option TreeError) (before after : Option CallLog) (faults faults_after : ℕ) : Type 0 where
+pub record WindsOn (ending : Ending) (old new : Saving) (did : Did) (calls : ℕ) (left : Option TreeError)
+    (before after : Option CallLog) (faults faults_after : ℕ) : Type 0 where
   pub copy : last_steps.WindsOn ending old.copy new.copy did calls left before after faults faults_after
   pub bytes : new.bytes ≡ old.bytes
   pub own : IsOwn new

@@ -1,4 +1,5 @@
--- The save of a file as it stands: the copy of its bytes to the target, in which the target stands for a source too, and the bytes.
+-- The save of a file as it stands: the copy of its bytes to the target, in which the target stands for a
+-- source too, and the bytes.
 use Rattle.std.specs.Prelude.{◌≡◌, ℕ, ⊤, List, length, take, drop, nat_lt, if◌then◌else◌}
 use Rattle.mc_text.specs.Routes.{Route}
 use Rattle.copy_file.specs.declared.stage.Stage.{Stage}

@@ -1,6 +1,7 @@
-//! Laws of a save and of what a crash leaves of it, which hold by those of `laws_crash`. The functions do nothing: their contracts are laws of the
-//! definitions in `specs/`.
-ghost use Rattle.save_file.specs.SaveLaws.{BarrierLaw, BeganLaw, ChunkLaw, CleanedLaw, PlacedLaw, RefusedLaw, WholeLaw};
+//! Laws of a save and of what a crash leaves of it, which hold by those of `laws_crash`. The functions do
+//! nothing: their contracts are laws of the definitions in `specs/`.
+ghost use Rattle.save_file.specs.SaveLaws.{BarrierLaw, BeganLaw, ChunkLaw, CleanedLaw};
+ghost use Rattle.save_file.specs.SaveLaws.{PlacedLaw, RefusedLaw, WholeLaw};
 
 /// The part is made beside the target, empty.
 pub fn what_the_making_of_the_part_keeps()

@@ -1,5 +1,6 @@
-//! The save of a file: its bytes go to a part beside the target, which is synced and renamed over what stands there, and the folder is
-//! synced. A save that dies leaves the target as it was or whole, and a part file with a name of its own.
+//! The save of a file: its bytes go to a part beside the target, which is synced and renamed over what
+//! stands there, and the folder is synced. A save that dies leaves the target as it was or whole, and a
+//! part file with a name of its own.
 #![tactic(auto)]
 
 mod laws;

@@ -40,7 +40,8 @@ pub(crate) fn mode_to_take<T: Tree>(
     judge(alloc, target, found)
 }
 
-/// What the look at the target comes to: a file keeps its mode, a link gives way to a new file, and nothing else does.
+/// What the look at the target comes to: a file keeps its mode, a link gives way to a new
+/// file, and nothing else does.
 fn judge(alloc: Global, target: &Path, found: Option<Meta>) -> Result<u16, Trouble>
     ensures { Judges target.now found result }
 {

@@ -82,7 +82,8 @@ impl FileSave {
         self.copy.folder()
     }
 
-    /// Whether the folder has a change of names that no sync has brought onto the disk, as far as this save goes.
+    /// Whether the folder has a change of names that no sync has brought onto the disk,
+    /// as far as this save goes.
     pub fn is_dirty(&self) -> bool
         ensures { result ≡ is_dirty self.now.copy.folder }
     {
@@ -111,7 +112,8 @@ impl FileSave {
         parts: &P,
     ) -> StepResult
         requires { left_at self.old.copy.stage ≡ None }
-        ensures steps { StepsOn (λ path. P.is_free parts.now path ≡ true) self.old self.new result.did result.calls
+        ensures steps { StepsOn (λ path. P.is_free parts.now path ≡ true) self.old self.new
+            result.did result.calls
             (T.contents tree.old) (T.contents tree.new) (T.fault_count tree.old) (T.fault_count tree.new) }
         ensures ready { left_at self.new.copy.stage ≡ None }
     {
@@ -128,7 +130,8 @@ impl FileSave {
 
     /// What was refused is tried again. A file whose part stands is saved anew.
     pub fn retry(&mut self)
-        ensures anew { self.new ≡ record self.old { copy = record self.old.copy { stage = taken_anew self.old.copy.stage } } }
+        ensures anew { self.new
+            ≡ record self.old { copy = record self.old.copy { stage = taken_anew self.old.copy.stage } } }
         ensures ready { left_at self.new.copy.stage ≡ left_at self.old.copy.stage }
     {
         self.copy.retry();

@@ -25,8 +25,10 @@ pub(crate) fn work<T: Tree, P: PartTest>(
 ) -> StepResult
     requires ready { left_at copy.old.stage ≡ None }
     requires own { IsOwn (saving copy.old bytes.now) }
-    ensures { StepsOn (λ path. P.is_free parts.now path ≡ true) (saving copy.old bytes.now) (saving copy.new bytes.now)
-        result.did result.calls (T.contents tree.old) (T.contents tree.new) (T.fault_count tree.old) (T.fault_count tree.new) }
+    ensures { StepsOn (λ path. P.is_free parts.now path ≡ true) (saving copy.old bytes.now)
+        (saving copy.new bytes.now)
+        result.did result.calls (T.contents tree.old) (T.contents tree.new) (T.fault_count tree.old)
+        (T.fault_count tree.new) }
 {
     match next_piece(copy.stage()) {
         Piece::Make => make(alloc, tree, parts, copy, bytes),
@@ -45,8 +47,10 @@ fn make<T: Tree, P: PartTest>(
 ) -> StepResult
     requires stage { copy.old.stage ≡ Stage.Begin }
     requires own { IsOwn (saving copy.old bytes.now) }
-    ensures { StepsOn (λ path. P.is_free parts.now path ≡ true) (saving copy.old bytes.now) (saving copy.new bytes.now)
-        result.did result.calls (T.contents tree.old) (T.contents tree.new) (T.fault_count tree.old) (T.fault_count tree.new) }
+    ensures { StepsOn (λ path. P.is_free parts.now path ≡ true) (saving copy.old bytes.now)
+        (saving copy.new bytes.now)
+        result.did result.calls (T.contents tree.old) (T.contents tree.new) (T.fault_count tree.old)
+        (T.fault_count tree.new) }
 {
     let mode = match mode_to_take(alloc, tree, copy.target(), copy.folder()) {
         Ok(mode) => mode,
@@ -74,8 +78,10 @@ fn write<T: Tree>(
 ) -> StepResult
     requires piece { piece_at copy.old.stage ≡ Piece.Write done }
     requires own { IsOwn (saving copy.old bytes.now) }
-    ensures { (free : Route → Bool) → StepsOn (λ path. free path ≡ true) (saving copy.old bytes.now) (saving copy.new bytes.now)
-        result.did result.calls (T.contents tree.old) (T.contents tree.new) (T.fault_count tree.old) (T.fault_count tree.new) }
+    ensures { (free : Route → Bool)
+        → StepsOn (λ path. free path ≡ true) (saving copy.old bytes.now) (saving copy.new bytes.now)
+        result.did result.calls (T.contents tree.old) (T.contents tree.new) (T.fault_count tree.old)
+        (T.fault_count tree.new) }
 {
     copy.fill_with(alloc, tree, next_bytes(bytes, done))
 }

@@ -1,5 +1,6 @@
 -- The cells in which a frame differs from the one that was drawn before.
-use Rattle.std.specs.Prelude.{ℕ, ◌+◌, ◌<◌, Bool, true, false, not, ◌&&◌, if◌then◌else◌, List, [], ◌∷◌, slice_set}
+use Rattle.std.specs.Prelude.{ℕ, ◌+◌, ◌<◌, Bool, true, false, not, ◌&&◌}
+use Rattle.std.specs.Prelude.{if◌then◌else◌, List, [], ◌∷◌, slice_set}
 use Rattle.std.specs.Str.{bytes_eq}
 use Rattle.key_screen.specs.declared.cells.Attr.{Attr}
 use Rattle.key_screen.specs.declared.cells.Attr.TheVariants.{Plain, Bold, Reverse}
@@ -35,7 +36,8 @@ abbrev pub changes_from : Bool → ℕ → List Cell → List Cell → List Chan
 changes_from has_drawn at [] cells = []
 changes_from has_drawn at (was ∷ before) [] = []
 changes_from has_drawn at (was ∷ before) (cell ∷ cells) =
-    if is_due has_drawn was cell then record { at = at; cell = cell } ∷ changes_from has_drawn (at + 1) before cells
+    if is_due has_drawn was cell
+    then record { at = at; cell = cell } ∷ changes_from has_drawn (at + 1) before cells
     else changes_from has_drawn (at + 1) before cells
 
 -- a change stands within so many cells

@@ -1,5 +1,5 @@
--- What a terminal shows of all bytes that were put to it, before a drawing and after it. Own; the terminal is that of
--- `key_screen`.
+-- What a terminal shows of all bytes that were put to it, before a drawing and after it. Own; the terminal
+-- is that of `key_screen`.
 use Rattle.std.specs.Prelude.{◌≡◌, ℕ, Bool, true, List, ◌++◌, length, take, Option, Some, Result, Ok, Err}
 use Rattle.tree_trait.specs.declared.devices.SinkError.{SinkError}
 use Rattle.key_screen.specs.Grids.{CellGrid}
@@ -20,15 +20,15 @@ pub record HasSizeOf (screen frame : CellGrid) : Type 0 where
 abbrev pub Shows : List ℕ → CellGrid → Type 0
 Shows given screen = screen_after screen.lines screen.columns given ≡ Ok screen
 
--- Bytes draw a frame. A terminal that shows the frame drawn before, whatever it was given, shows this one after them; where
--- none was drawn, a terminal that shows anything. Where one was, they are sparse.
+-- Bytes draw a frame. A terminal that shows the frame drawn before, whatever it was given, shows this one
+-- after them; where none was drawn, a terminal that shows anything. Where one was, they are sparse.
 pub record IsDrawing (display : Display) (frame : CellGrid) (bytes : List ℕ) : Type 0 where
   pub shows : (before : List ℕ) (was : CellGrid) → Shows before was → HasSizeOf was frame
       → (display.has_drawn ≡ true → was ≡ display.grid) → Shows (before ++ bytes) frame
   pub sparse : display.has_drawn ≡ true → IsSparse display.grid frame bytes
 
--- what a sink was given after a drawing: bytes that draw the frame, as many as are told; where it was refused, a front of
--- such bytes
+-- what a sink was given after a drawing: bytes that draw the frame, as many as are told; where it was
+-- refused, a front of such bytes
 abbrev pub HasDrawn : Display → CellGrid → List ℕ → Result ℕ SinkError → Option (List ℕ) → Type 0
 HasDrawn display frame given (Ok count) new =
     (bytes : List ℕ) × (new ≡ Some (given ++ bytes)) × (length bytes ≡ count) × IsDrawing display frame bytes

@@ -1,7 +1,9 @@
--- The bytes that draw changes on a terminal, as ECMA-48 has them: where the next cluster goes (CUP), how it looks (SGR),
--- and its text. Two clusters stand directly behind each other only where both are printable ASCII, so that they don't
--- become one. Where few such cells lie between two changes, they are written again, since a placement takes more bytes.
-use Rattle.std.specs.Prelude.{ℕ, ◌+◌, ◌-◌, ◌/◌, ◌%◌, ◌==◌, nat_le, nat_lt, Bool, true, false, not, ◌&&◌, if◌then◌else◌, List, [], ◌∷◌, ◌++◌, take, drop}
+-- The bytes that draw changes on a terminal, as ECMA-48 has them: where the next cluster goes (CUP), how it
+-- looks (SGR), and its text. Two clusters stand directly behind each other only where both are printable
+-- ASCII, so that they don't become one. Where few such cells lie between two changes, they are written
+-- again, since a placement takes more bytes.
+use Rattle.std.specs.Prelude.{ℕ, ◌+◌, ◌-◌, ◌/◌, ◌%◌, ◌==◌, nat_le, nat_lt, Bool, true, false}
+use Rattle.std.specs.Prelude.{not, ◌&&◌, if◌then◌else◌, List, [], ◌∷◌, ◌++◌, take, drop}
 use Rattle.key_screen.specs.declared.cells.Attr.{Attr}
 use Rattle.key_screen.specs.declared.cells.Attr.TheVariants.{Plain, Bold, Reverse}
 use Rattle.key_screen.specs.declared.cells.Cell.{Cell}
@@ -79,13 +81,15 @@ cells_between cells from to = take (to - from) (drop from cells)
 
 -- a place is reached from another by text: at most five cells lie between, and both stand in one row
 abbrev pub is_near : ℕ → ℕ → ℕ → Bool
-is_near columns from at = nat_le from at && nat_le (at - from) 5 && not (from % columns == 0) && nat_lt (at - from) (columns - from % columns)
+is_near columns from at = nat_le from at && nat_le (at - from) 5 && not (from % columns == 0)
+    && nat_lt (at - from) (columns - from % columns)
 
--- text that looks so goes on from a place up to a change: it is near, and the cells between and its own are printable ASCII of
--- this look
+-- text that looks so goes on from a place up to a change: it is near, and the cells between and its own are
+-- printable ASCII of this look
 abbrev pub goes_on : ℕ → List Cell → Attr → ℕ → Change → Bool
 goes_on columns cells attr from change =
-    is_near columns from change.at && is_typed attr change.cell && are_typed attr (cells_between cells from change.at)
+    is_near columns from change.at && is_typed attr change.cell
+    && are_typed attr (cells_between cells from change.at)
 
 -- a change is placed; how it looks is said where that is another look than that of the text before
 abbrev pub place_as : Attr → Change → Approach
@@ -103,8 +107,10 @@ approach_to columns cells (Typing last width attr) change =
 
 -- what stands there
 abbrev pub lead : ℕ → List Cell → Approach → Change → List ℕ
-lead columns cells Approaches.Place change = place (change.at / columns + 1) (change.at % columns + 1) ++ look change.cell.attr
-lead columns cells (Approaches.Turn before) change = place (change.at / columns + 1) (change.at % columns + 1) ++ turn before change.cell.attr
+lead columns cells Approaches.Place change =
+    place (change.at / columns + 1) (change.at % columns + 1) ++ look change.cell.attr
+lead columns cells (Approaches.Turn before) change =
+    place (change.at / columns + 1) (change.at % columns + 1) ++ turn before change.cell.attr
 lead columns cells Approaches.Move change = place (change.at / columns + 1) (change.at % columns + 1)
 lead columns cells (Approaches.Look before) change = turn before change.cell.attr
 lead columns cells (Approaches.Type from) change = cells_text (cells_between cells from change.at)
@@ -112,19 +118,22 @@ lead columns cells (Approaches.Type from) change = cells_text (cells_between cel
 -- what draws a change
 abbrev pub stroke : ℕ → List Cell → Pen → Change → List ℕ
 stroke columns cells pen change =
-    if is_right_half change.cell.glyph then [] else lead columns cells (approach_to columns cells pen change) change ++ glyph_text change.cell.glyph
+    if is_right_half change.cell.glyph then []
+    else lead columns cells (approach_to columns cells pen change) change ++ glyph_text change.cell.glyph
 
 -- where the pen is behind a change
 abbrev pub pen_after : Pen → Change → Pen
 pen_after pen change =
     if is_right_half change.cell.glyph then pen
-    else if is_printable (glyph_text change.cell.glyph) then Typing change.at (glyph_columns change.cell.glyph) change.cell.attr
+    else if is_printable (glyph_text change.cell.glyph)
+    then Typing change.at (glyph_columns change.cell.glyph) change.cell.attr
     else Behind change.at (glyph_columns change.cell.glyph) change.cell.attr
 
 -- what draws changes
 abbrev pub drawing : ℕ → List Cell → Pen → List Change → List ℕ
 drawing columns cells pen [] = []
-drawing columns cells pen (change ∷ changes) = stroke columns cells pen change ++ drawing columns cells (pen_after pen change) changes
+drawing columns cells pen (change ∷ changes) =
+    stroke columns cells pen change ++ drawing columns cells (pen_after pen change) changes
 
 -- what draws the changes of a frame of these cells; one of no columns has none
 abbrev pub drawn_bytes : ℕ → List Cell → List Change → List ℕ

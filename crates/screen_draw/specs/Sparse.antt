@@ -11,7 +11,8 @@ use Rattle.key_screen.specs.Terminal.{segments}
 pub record DifferInRow (was frame : CellGrid) (row : ℕ) : Type 0 where
   pub column : ℕ
   pub on_grid : IsOnGrid frame row column
-  pub differ : slice_get was.cells (place_of frame row column) ≢ slice_get frame.cells (place_of frame row column)
+  pub differ : slice_get was.cells (place_of frame row column)
+      ≢ slice_get frame.cells (place_of frame row column)
 
 -- a control clears nothing, and places only in a row in which the screens differ
 abbrev pub MayControl : CellGrid → CellGrid → Control → Type 0
@@ -35,7 +36,8 @@ BeginPlacing ([] ∷ []) = ⊤
 BeginPlacing ([] ∷ (sequence ∷ sequences)) = IsPlacing (control_of sequence)
 BeginPlacing other = ⊥
 
--- bytes lead from one screen to another, and draw no row in which the two agree; they are none where all rows do
+-- bytes lead from one screen to another, and draw no row in which the two agree; they
+-- are none where all rows do
 pub record IsSparse (was frame : CellGrid) (bytes : List ℕ) : Type 0 where
   pub begins : BeginPlacing (segments bytes)
   pub allowed : All (λ sequence. MayFollow was frame (control_of sequence)) (drop 1 (segments bytes))

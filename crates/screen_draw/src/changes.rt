@@ -1,6 +1,7 @@
 //! The cells in which a frame differs from the one that was drawn before.
 ghost use Rattle.std.specs.Prelude.{◌≡◌, ◌<◌, All, length, slice_set, IfOk};
-ghost use Rattle.screen_draw.specs.Changes.{is_same_attr, is_same_glyph, is_same_cell, is_due as is_due_of, changes_from, with_changes, IsWithin};
+ghost use Rattle.screen_draw.specs.Changes.{is_same_attr, is_same_glyph, is_same_cell};
+ghost use Rattle.screen_draw.specs.Changes.{is_due as is_due_of, changes_from, with_changes, IsWithin};
 
 use key_screen::{Attr, Cell, Glyph};
 use mc_text::NoMemory;
@@ -14,8 +15,8 @@ pub struct Change {
     pub cell: Cell,
 }
 
-/// The cells of a frame that are to be drawn: all of the first one, and then those that aren't as they were. It copies
-/// these, and looks once at each cell.
+/// The cells of a frame that are to be drawn: all of the first one, and then those that aren't as they
+/// were. It copies these, and looks once at each cell.
 pub fn changes_of(
     alloc: Global,
     has_drawn: bool,

@@ -29,7 +29,14 @@ impl Model for Screen {
 
     ghost Value = { Display };
 
-    ghost view = { λ s. record { grid = record { lines = s.lines; columns = s.columns; cells = s.cells.items }; has_drawn = s.has_drawn } };
+    ghost view = { λ s. record {
+      grid = record {
+        lines = s.lines;
+        columns = s.columns;
+        cells = s.cells.items;
+      };
+      has_drawn = s.has_drawn;
+    } };
 
     ghost invariant = { λ s. length s.cells.items ≡ s.lines * s.columns };
 }
@@ -37,7 +44,8 @@ impl Model for Screen {
 impl Screen {
     /// A screen of this size on which nothing was drawn: each cell is blank.
     pub fn new(alloc: Global, lines: u16, columns: u16) -> Result<Screen, NoMemory>
-        ensures { IfOk result (λ screen. screen ≡ record { grid = blank_grid lines columns; has_drawn = false }) }
+        ensures { IfOk result
+            (λ screen. screen ≡ record { grid = blank_grid lines columns; has_drawn = false }) }
     {
         let cells = blank_cells(alloc, usize::from(lines) * usize::from(columns))?;
         Ok(Screen {
@@ -48,9 +56,10 @@ impl Screen {
         })
     }
 
-    /// Draws a frame: all of the first one, and then what differs from the one before. Tells how many bytes were put. They
-    /// are put by one call, after the memory was found that the drawing takes; where nothing differs there is no call.
-    /// It takes time proportional to the cells, and memory proportional to those that differ.
+    /// Draws a frame: all of the first one, and then what differs from the one before. Tells how many
+    /// bytes were put. They are put by one call, after the memory was found that the drawing takes;
+    /// where nothing differs there is no call. It takes time proportional to the cells, and memory
+    /// proportional to those that differ.
     pub fn draw<S: Sink>(
         &mut self,
         alloc: Global,

@@ -2,7 +2,13 @@
 ghost use Rattle.std.specs.Prelude.{◌≡◌, ◌+◌, ◌<◌, ◌≤◌, ◌++◌, ◌/◌, ◌%◌, ◌^◌, true, All, IfOk, OnOk, length};
 ghost use Rattle.key_screen.specs.DrawnText.{glyph_columns, cluster_columns};
 ghost use Rattle.screen_draw.specs.Changes.{IsWithin};
-ghost use Rattle.screen_draw.specs.DrawnBytes.{glyph_text, is_printable as is_printable_of, look, turn, digit, digit_at, number, place, is_here as is_here_of, is_typed as is_typed_of, are_typed as are_typed_of, cells_text, cells_between, is_near as is_near_of, goes_on as goes_on_of, place_as as place_as_of, approach_to as approach_of, lead, stroke, pen_after as pen_after_of, drawing, drawn_bytes};
+ghost use Rattle.screen_draw.specs.DrawnBytes.{glyph_text, is_printable as is_printable_of, look, turn};
+ghost use Rattle.screen_draw.specs.DrawnBytes.{digit, digit_at, number, place, is_here as is_here_of};
+ghost use Rattle.screen_draw.specs.DrawnBytes.{is_typed as is_typed_of, are_typed as are_typed_of};
+ghost use Rattle.screen_draw.specs.DrawnBytes.{cells_text, cells_between, is_near as is_near_of};
+ghost use Rattle.screen_draw.specs.DrawnBytes.{goes_on as goes_on_of, place_as as place_as_of};
+ghost use Rattle.screen_draw.specs.DrawnBytes.{approach_to as approach_of, lead, stroke};
+ghost use Rattle.screen_draw.specs.DrawnBytes.{pen_after as pen_after_of, drawing, drawn_bytes};
 
 use crate::changes::{Change, looks_same};
 use key_screen::{Attr, Cell, Glyph};
@@ -15,7 +21,8 @@ use unicode_width::UnicodeWidthStr;
 pub enum Pen {
     /// Nothing was drawn yet.
     Away,
-    /// Behind a cluster that stands there, is so many columns wide and looks so. What follows it might become one with it.
+    /// Behind a cluster that stands there, is so many columns wide and looks so. What follows it
+    /// might become one with it.
     Behind {
         last: usize,
         columns: usize,
@@ -40,15 +47,16 @@ pub enum Approach {
     Move,
     /// How it looks behind text of this look.
     Look(Attr),
-    /// The text from this place up to it, again. There is none where it stands directly behind the text before it.
+    /// The text from this place up to it, again. There is none where it stands directly
+    /// behind the text before it.
     Type(usize),
 }
 
 /// The most cells between two changes that are written again. A placement takes six bytes at least.
 const LONGEST_GAP: usize = 5;
 
-/// The bytes that draw changes in a frame of these cells, of so many columns, in time proportional to the changes and their
-/// texts.
+/// The bytes that draw changes in a frame of these cells, of so many columns, in time proportional to the
+/// changes and their texts.
 pub fn bytes_of(
     alloc: Global,
     columns: usize,
@@ -99,7 +107,8 @@ fn push_lead(
 ) -> Result<(), AllocError>
     requires some { 0 < columns }
     requires within { change.now.at < length cells.now }
-    ensures { OnOk result (bytes.new.items ≡ bytes.old.items ++ lead columns cells.now (approach_of columns cells.now pen change.now) change.now) }
+    ensures { OnOk result (bytes.new.items ≡ bytes.old.items
+        ++ lead columns cells.now (approach_of columns cells.now pen change.now) change.now) }
 {
     match approach_to(columns, cells, pen, change) {
         Approach::Place => {

@@ -1,4 +1,5 @@
--- The key bars: the ten function keys, each with its number and what it does. The labels are those of Midnight Commander.
+-- The key bars: the ten function keys, each with its number and what it does. The labels are
+-- those of Midnight Commander.
 use Rattle.std.specs.Prelude.{ℕ, ◌+◌, List, [], ◌∷◌, ◌++◌, codes}
 use Rattle.std.specs.Fmt.{decimal}
 use Rattle.mc_text.specs.Fit.{fitted_text}

@@ -1,5 +1,7 @@
--- What a panel shows, row by row. A pane has so many columns inside its walls; its left wall stands in `column`. Own.
-use Rattle.std.specs.Prelude.{ℕ, zero, suc, ◌+◌, ◌-◌, ◌/◌, ◌==◌, if◌then◌else◌, List, [], ◌∷◌, ◌++◌, length, get_or, codes}
+-- What a panel shows, row by row. A pane has so many columns inside its walls; its left wall
+-- stands in `column`. Own.
+use Rattle.std.specs.Prelude.{ℕ, zero, suc, ◌+◌, ◌-◌, ◌/◌, ◌==◌, if◌then◌else◌}
+use Rattle.std.specs.Prelude.{List, [], ◌∷◌, ◌++◌, length, get_or, codes}
 use Rattle.std.specs.Fmt.{decimal}
 use Rattle.mc_text.specs.Drawn.{drawn_text}
 use Rattle.key_screen.specs.declared.cells.Attr.{Attr}
@@ -40,8 +42,8 @@ heading_row column inside pane =
     items_in_row pane.shape 2 column inside (record { text = pane.heading; look = Plain })
     (record { text = pane.heading; look = Plain })
 
--- The rows from 3 on, so many of `height`. Each has the item of its place, and in the second column the one that stands
--- `height` further on.
+-- The rows from 3 on, so many of `height`. Each has the item of its place, and in the second column the one
+-- that stands `height` further on.
 abbrev pub item_row : ℕ → ℕ → ℕ → Pane → ℕ → List Piece
 item_row column inside height pane place =
     items_in_row pane.shape (3 + place) column inside (get_or pane.items place no_item)

@@ -19,7 +19,8 @@ pub record Piece : Type 0 where
 -- a screen on which pieces are written, one after the other
 abbrev pub painted_grid : CellGrid → List Piece → CellGrid
 painted_grid grid [] = grid
-painted_grid grid (piece ∷ pieces) = painted_grid (written_at grid piece.row piece.column piece.text piece.look) pieces
+painted_grid grid (piece ∷ pieces) =
+    painted_grid (written_at grid piece.row piece.column piece.text piece.look) pieces
 
 -- a text as it stands
 abbrev pub text_at : ℕ → ℕ → List ℕ → Attr → Piece

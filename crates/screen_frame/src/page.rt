@@ -1,5 +1,6 @@
 //! The frame of a page: of the viewer, and of the editor.
-ghost use Rattle.std.specs.Prelude.{◌≡◌, ◌+◌, ◌-◌, ◌<◌, ◌≤◌, ◌^◌, [], ◌∷◌, ◌++◌, length, take, OnOk, OnErr, IfOk};
+ghost use Rattle.std.specs.Prelude.{◌≡◌, ◌+◌, ◌-◌, ◌<◌, ◌≤◌, ◌^◌, [], ◌∷◌};
+ghost use Rattle.std.specs.Prelude.{◌++◌, length, take, OnOk, OnErr, IfOk};
 ghost use Rattle.screen_frame.specs.Pieces.{painted_grid};
 ghost use Rattle.screen_frame.specs.Pages.{run_pieces, row_pieces, page_pieces, page_frame};
 
@@ -72,7 +73,8 @@ pub struct Page {
     pub bar: KeyBar,
 }
 
-/// A screen of so many lines and columns that shows a page. It takes time linear in the cells and in the texts.
+/// A screen of so many lines and columns that shows a page. It takes time linear in
+/// the cells and in the texts.
 #[tactic(auto, unfolding(crate::specs::Pages::page_frame))]
 pub fn paint_page(alloc: Global, lines: u16, columns: u16, page: &Page) -> Result<Grid, NoMemory>
     ensures frame { IfOk result (λ grid. grid ≡ page_frame lines columns page.now) }

@@ -1,7 +1,9 @@
 //! A pane, row by row.
-ghost use Rattle.std.specs.Prelude.{◌≡◌, ◌+◌, ◌-◌, ◌/◌, ◌<◌, ◌^◌, [], ◌∷◌, length, get_or, string_bytes, OnOk, IfOk};
+ghost use Rattle.std.specs.Prelude.{◌≡◌, ◌+◌, ◌-◌, ◌/◌, ◌<◌, ◌^◌, [], ◌∷◌};
+ghost use Rattle.std.specs.Prelude.{length, get_or, string_bytes, OnOk, IfOk};
 ghost use Rattle.screen_frame.specs.Pieces.{painted_grid, text_at, edge};
-ghost use Rattle.screen_frame.specs.Panes.{title_row, title_look, heading_row, item_row, item_rows, items_in_row, no_item, name_row, unnamed_text, pane_rows};
+ghost use Rattle.screen_frame.specs.Panes.{title_row, title_look, heading_row, item_row, item_rows};
+ghost use Rattle.screen_frame.specs.Panes.{items_in_row, no_item, name_row, unnamed_text, pane_rows};
 
 use crate::cutting::{cut, edge_of};
 use crate::panes::{ListingLine, Pane, Shape};
@@ -68,7 +70,8 @@ fn look_of_title(pane: &Pane) -> Attr
 
 /// Writes its heading, over each of its columns.
 fn write_heading(grid: &mut Grid, alloc: Global, stand: Stand, pane: &Pane) -> Result<(), NoMemory>
-    ensures { OnOk result (grid.new ≡ painted_grid grid.old (heading_row stand.column stand.inside pane.now)) }
+    ensures { OnOk result
+        (grid.new ≡ painted_grid grid.old (heading_row stand.column stand.inside pane.now)) }
 {
     let heading = ListingLine {
         text: pane.heading.copy(alloc)?,
@@ -86,7 +89,8 @@ fn write_items(
     height: u16,
     pane: &Pane,
 ) -> Result<(), NoMemory>
-    ensures { OnOk result (grid.new ≡ painted_grid grid.old (item_rows stand.column stand.inside height pane.now height)) }
+    ensures { OnOk result
+        (grid.new ≡ painted_grid grid.old (item_rows stand.column stand.inside height pane.now height)) }
 {
     for place in 0..height {
         write_items_at(grid, alloc, stand, height, pane, place)?;
@@ -103,7 +107,8 @@ fn write_items_at(
     pane: &Pane,
     place: u16,
 ) -> Result<(), NoMemory>
-    ensures { OnOk result (grid.new ≡ painted_grid grid.old (item_row stand.column stand.inside height pane.now place)) }
+    ensures { OnOk result
+        (grid.new ≡ painted_grid grid.old (item_row stand.column stand.inside height pane.now place)) }
 {
     let blank = ListingLine {
         text: Text::from_str(alloc, "")?,
@@ -136,7 +141,8 @@ fn write_row(
     first: &ListingLine,
     second: &ListingLine,
 ) -> Result<(), NoMemory>
-    ensures { OnOk result (grid.new ≡ painted_grid grid.old (items_in_row shape row stand.column stand.inside first.now second.now)) }
+    ensures { OnOk result (grid.new
+        ≡ painted_grid grid.old (items_in_row shape row stand.column stand.inside first.now second.now)) }
 {
     match shape {
         Shape::Full => {
@@ -160,7 +166,8 @@ fn write_two(
     first: &ListingLine,
     second: &ListingLine,
 ) -> Result<(), NoMemory>
-    ensures { OnOk result (grid.new ≡ painted_grid grid.old (items_in_row Shape.Brief row stand.column stand.inside first.now second.now)) }
+    ensures { OnOk result (grid.new ≡ painted_grid grid.old
+        (items_in_row Shape.Brief row stand.column stand.inside first.now second.now)) }
 {
     let column = usize::from(stand.column);
     let inside = usize::from(stand.inside).saturating_sub(1);
@@ -187,7 +194,8 @@ fn write_name(
     row: u16,
     pane: &Pane,
 ) -> Result<(), NoMemory>
-    ensures { OnOk result (grid.new ≡ painted_grid grid.old (name_row row stand.column stand.inside pane.now)) }
+    ensures { OnOk result
+        (grid.new ≡ painted_grid grid.old (name_row row stand.column stand.inside pane.now)) }
 {
     let row = usize::from(row);
     let column = usize::from(stand.column);
@@ -222,7 +230,8 @@ fn unnamed_text(alloc: Global, count: u64) -> Result<Text, NoMemory>
 
 /// Writes its last line.
 fn write_end(grid: &mut Grid, alloc: Global, stand: Stand, row: u16) -> Result<(), NoMemory>
-    ensures { OnOk result (grid.new ≡ painted_grid grid.old (text_at row stand.column (edge stand.inside) Attr.Plain ∷ [])) }
+    ensures { OnOk result
+        (grid.new ≡ painted_grid grid.old (text_at row stand.column (edge stand.inside) Attr.Plain ∷ [])) }
 {
     let edge = edge_of(alloc, usize::from(stand.inside))?;
     grid.write_at(

@@ -15,8 +15,8 @@ use mc_text::NoMemory;
 use std::alloc::Global;
 use std::convert::AsStr;
 
-/// A screen of so many lines and columns that shows the panels and the live jobs. It takes time linear in the cells and in
-/// the texts.
+/// A screen of so many lines and columns that shows the panels and the live jobs. It takes time linear in
+/// the cells and in the texts.
 #[tactic(auto, unfolding(crate::specs::Frames::panels_frame))]
 pub fn paint_panels(
     alloc: Global,

@@ -24,15 +24,16 @@ pub fn write_fitted(
     text: &str,
     look: Attr,
 ) -> Result<(), NoMemory>
-    ensures { OnOk result (grid.new ≡ painted_grid grid.old (fitted_at place.row place.column place.room text.now look ∷ [])) }
+    ensures { OnOk result
+        (grid.new ≡ painted_grid grid.old (fitted_at place.row place.column place.room text.now look ∷ [])) }
 {
     let shown = drawn(alloc, text)?;
     let line = fit(alloc, shown.as_str(), place.room)?;
     grid.write_at(alloc, place.row, place.column, line.as_str(), look)
 }
 
-/// Writes a text between walls, of which the left one stands in the first column of the place, and the text in the
-/// columns behind it.
+/// Writes a text between walls, of which the left one stands in the first column of the place, and the text
+/// in the columns behind it.
 pub fn write_walled(
     grid: &mut Grid,
     alloc: Global,
@@ -42,7 +43,8 @@ pub fn write_walled(
 ) -> Result<(), NoMemory>
     requires column { place.column < 2 ^ 18 }
     requires room { place.room < 2 ^ 18 }
-    ensures { OnOk result (grid.new ≡ painted_grid grid.old (walled_pieces place.row place.column place.room (record { text = text.now; look = look }))) }
+    ensures { OnOk result (grid.new ≡ painted_grid grid.old
+        (walled_pieces place.row place.column place.room (record { text = text.now; look = look }))) }
 {
     let inside = Place {
         row: place.row,

@@ -1,7 +1,8 @@
 -- What a history tells of its session. Histories stand newest first here.
 use Rattle.std.specs.Prelude.{◌≡◌, ◌⊎◌, ℕ, ◌≤◌, Bool, true, false, ◌||◌, List, [], ◌∷◌}
 use Rattle.session_entries.specs.declared.history.Event.{Event}
-use Rattle.session_entries.specs.declared.history.Event.TheVariants.{Key, Look, Sought, Order, Step, Next, Closed}
+use Rattle.session_entries.specs.declared.history.Event.TheVariants.{Key, Look, Sought, Order}
+use Rattle.session_entries.specs.declared.history.Event.TheVariants.{Step, Next, Closed}
 use Rattle.session_entries.specs.declared.history.Event.TheVariants as event
 use Rattle.session_entries.specs.declared.history.Entry.{Entry}
 
@@ -42,10 +43,11 @@ abbrev pub calls_in : List Entry → ℕ
 calls_in [] = 0
 calls_in (e ∷ older) = e.calls
 
--- A moment of a session: these entries stand; that one is the same, or has the entry that is under way besides; and so many
--- changing calls were made.
+-- A moment of a session: these entries stand; that one is the same, or has the entry that is under way
+-- besides; and so many changing calls were made.
 abbrev pub IsMoment : List Entry → List Entry → List Entry → ℕ → Type 0
 IsMoment [] standing coming calls = (standing ≡ []) × (coming ≡ []) × (calls ≡ 0)
 IsMoment (e ∷ older) standing coming calls =
     ((standing ≡ e ∷ older) × (coming ≡ e ∷ older) × (calls ≡ e.calls))
-    ⊎ (((standing ≡ older) × (coming ≡ e ∷ older) × (calls_in older ≤ calls) × (calls ≤ e.calls)) ⊎ IsMoment older standing coming calls)
+    ⊎ (((standing ≡ older) × (coming ≡ e ∷ older) × (calls_in older ≤ calls) × (calls ≤ e.calls))
+    ⊎ IsMoment older standing coming calls)

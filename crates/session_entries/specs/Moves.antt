@@ -1,12 +1,15 @@
--- A move takes along all that lies in the thing that is moved: where a path below the one place is then, below the other.
+-- A move takes along all that lies in the thing that is moved: where a path below the one place
+-- is then, below the other.
 use Rattle.std.specs.Prelude.{Bool, not, ◌||◌, filter, map, List, [], ◌∷◌, if◌then◌else◌}
 use Rattle.mc_text.specs.Routes.{Route, is_prefix, same_path}
 use Rattle.job_reports.specs.declared.job.Pair.{Pair}
 
--- where something comes from that was copied or moved with what it lies in: as far below the source as it lies below the target
+-- where something comes from that was copied or moved with what it lies in: as far below the source as
+-- it lies below the target
 abbrev pub moved_from : Route → Route → Route → Route
 moved_from source target [] = source
-moved_from source target (name ∷ up) = if same_path (name ∷ up) target then source else name ∷ moved_from source target up
+moved_from source target (name ∷ up) =
+    if same_path (name ∷ up) target then source else name ∷ moved_from source target up
 
 -- a path of the thing that is moved, or of its target: one of the two, or one below it
 abbrev pub is_of_move : Pair → Route → Bool

@@ -1,18 +1,23 @@
--- Which paths the entries of a history name, as what was changed and as parts. Histories stand newest first here.
-use Rattle.std.specs.Prelude.{◌≡◌, ◌⊎◌, ℕ, ◌==◌, Bool, true, false, ◌||◌, ◌&&◌, List, [], ◌∷◌, ◌++◌, Option, Some, None, if◌then◌else◌}
+-- Which paths the entries of a history name, as what was changed and as parts. Histories
+-- stand newest first here.
+use Rattle.std.specs.Prelude.{◌≡◌, ◌⊎◌, ℕ, ◌==◌, Bool, true, false, ◌||◌, ◌&&◌, List}
+use Rattle.std.specs.Prelude.{[], ◌∷◌, ◌++◌, Option, Some, None, if◌then◌else◌}
 use Rattle.std.specs.Option.{option_map_or}
 use Rattle.mc_text.specs.Routes.{Route, same_path}
 use Rattle.job_reports.specs.declared.report.Did.{Did}
-use Rattle.job_reports.specs.declared.report.Did.TheVariants.{Began, Chunk, Placed, Removed, Made, Set, Kept, Skipped, Cleaned, Barrier, Asked, Merges, Moved, Troubled, Ended}
+use Rattle.job_reports.specs.declared.report.Did.TheVariants.{Began, Chunk, Placed, Removed, Made}
+use Rattle.job_reports.specs.declared.report.Did.TheVariants.{Set, Kept, Skipped, Cleaned, Barrier}
+use Rattle.job_reports.specs.declared.report.Did.TheVariants.{Asked, Merges, Moved, Troubled, Ended}
 use Rattle.job_reports.specs.Paths.{without}
 use Rattle.session_entries.specs.Moves.{is_of_move, paths_below, paths_moved, paths_off}
 use Rattle.session_entries.specs.declared.history.Event.{Event}
-use Rattle.session_entries.specs.declared.history.Event.TheVariants.{Key, Look, Sought, Order, Step, Next, Closed}
+use Rattle.session_entries.specs.declared.history.Event.TheVariants.{Key, Look, Sought, Order}
+use Rattle.session_entries.specs.declared.history.Event.TheVariants.{Step, Next, Closed}
 use Rattle.session_entries.specs.declared.history.Event.TheVariants as event
 use Rattle.session_entries.specs.declared.history.Entry.{Entry}
 
--- a report names this path: as a part that was made, is gone, or is left, or as what was placed, removed, made or given a mode, or where something was that was
--- moved, and where it went, and what lies below
+-- a report names this path: as a part that was made, is gone, or is left, or as what was placed, removed,
+-- made or given a mode, or where something was that was moved, and where it went, and what lies below
 abbrev pub names : Did → Route → Bool
 names (Began part) path = same_path path part
 names (Placed target) path = same_path path target
@@ -43,9 +48,11 @@ names_path Closed path = false
 -- these entries are the older ones with more on top, of which none names this path
 abbrev pub IsUnnamedSince : List Entry → Route → List Entry → Type 0
 IsUnnamedSince older path [] = older ≡ []
-IsUnnamedSince older path (e ∷ entries) = (older ≡ e ∷ entries) ⊎ ((names_path e.what path ≡ false) × IsUnnamedSince older path entries)
+IsUnnamedSince older path (e ∷ entries) =
+    (older ≡ e ∷ entries) ⊎ ((names_path e.what path ≡ false) × IsUnnamedSince older path entries)
 
--- the path that a report says was changed: what was placed, removed, made or given a mode; those of a move `is_of_move` tells
+-- the path that a report says was changed: what was placed, removed, made or given a mode; those of
+-- a move `is_of_move` tells
 abbrev pub changed_by : Did → List Route
 changed_by (Placed path) = path ∷ []
 changed_by (Removed path) = path ∷ []
@@ -63,7 +70,8 @@ changed_by (Merges transfer pair names) = []
 changed_by (Troubled trouble) = []
 changed_by (Ended ending part) = []
 
--- the parts that ended jobs left, until one is removed; one that was moved, with what it lies in, is one where it went
+-- the parts that ended jobs left, until one is removed; one that was moved, with what it lies
+-- in, is one where it went
 abbrev pub left_by : Did → List Route → List Route
 left_by (Ended ending (Some part)) before = part ∷ before
 left_by (Ended ending None) before = before
@@ -100,10 +108,13 @@ left_parts (e ∷ older) = left_after e.what (left_parts older)
 -- the path before others, where it is one of these
 abbrev pub if_among : Route → List Route → List Route → List Route
 if_among path [] others = others
-if_among path (first ∷ rest) others = if same_path path first then path ∷ others else if_among path rest others
+if_among path (first ∷ rest) others =
+    if same_path path first then path ∷ others else if_among path rest others
 
--- A path that is placed or made is a part no more, nor is one to which something is moved, or one below it, unless that is one. But where a file is placed over a
--- part that an ended job left, or something is moved over it, a crash may still leave that part, so the path stays one; and so does that of a part that was moved.
+-- A path that is placed or made is a part no more, nor is one to which something is moved, or one
+-- below it, unless that is one. But where a file is placed over a part that an ended job left, or
+-- something is moved over it, a crash may still leave that part, so the path stays one; and so does
+-- that of a part that was moved.
 abbrev pub named_by : Did → List Route → List Route → List Route
 named_by (Began part) left before = part ∷ before
 named_by (Placed path) left before = if_among path left (without path before)
@@ -117,7 +128,8 @@ named_by (Cleaned part) left before = before
 named_by Barrier left before = before
 named_by (Asked question) left before = before
 named_by (Merges transfer pair names) left before = before
-named_by (Moved pair) left before = paths_moved pair left ++ paths_below pair.target left ++ paths_off pair.target before
+named_by (Moved pair) left before =
+    paths_moved pair left ++ paths_below pair.target left ++ paths_off pair.target before
 named_by (Troubled trouble) left before = before
 named_by (Ended ending part) left before = before
 
@@ -136,7 +148,8 @@ abbrev pub named_parts : List Entry → List Route
 named_parts [] = []
 named_parts (e ∷ older) = named_after e.what (left_parts older) (named_parts older)
 
--- a report of the first change that work makes: a part or a folder is made, a thing is removed or moved, or a mode is given
+-- a report of the first change that work makes: a part or a folder is made, a thing is removed or
+-- moved, or a mode is given
 abbrev pub begins_change : Did → Bool
 begins_change (Began part) = true
 begins_change (Removed path) = true

@@ -1,8 +1,11 @@
--- How the sources of a job are worked: one after another, in the order of its plan. Histories stand newest first here.
-use Rattle.std.specs.Prelude.{◌≡◌, ℕ, ⊤, Bool, true, false, List, [], ◌∷◌, ◌++◌, map, Option, None, if◌then◌else◌}
+-- How the sources of a job are worked: one after another, in the order of its plan. Histories
+-- stand newest first here.
+use Rattle.std.specs.Prelude.{◌≡◌, ℕ, ⊤, Bool, true, false, List, [], ◌∷◌}
+use Rattle.std.specs.Prelude.{◌++◌, map, Option, None, if◌then◌else◌}
 use Rattle.std.specs.List.{list_all}
 use Rattle.job_reports.specs.declared.job.Job.{Job}
-use Rattle.job_reports.specs.declared.job.Job.TheVariants.{Copy, Move, Delete, MakeFolder, MakeLink, SetMode, RemoveEmptied}
+use Rattle.job_reports.specs.declared.job.Job.TheVariants.{Copy, Move, Delete, MakeFolder}
+use Rattle.job_reports.specs.declared.job.Job.TheVariants.{MakeLink, SetMode, RemoveEmptied}
 use Rattle.job_reports.specs.declared.job.Pair.{Pair}
 use Rattle.job_reports.specs.declared.report.Did.{Did}
 use Rattle.job_reports.specs.declared.report.Did.TheVariants.{Ended, Merges}
@@ -12,7 +15,8 @@ use Rattle.job_reports.specs.declared.report.Transfer.TheVariants.{ByCopy, ByMov
 use Rattle.job_reports.specs.Jobs.{ItemOfJob, is_workable, item_of}
 use Rattle.job_reports.specs.Reports.{ends}
 use Rattle.session_entries.specs.declared.history.Event.{Event}
-use Rattle.session_entries.specs.declared.history.Event.TheVariants.{Key, Look, Sought, Order, Step, Next, Closed}
+use Rattle.session_entries.specs.declared.history.Event.TheVariants.{Key, Look, Sought, Order}
+use Rattle.session_entries.specs.declared.history.Event.TheVariants.{Step, Next, Closed}
 use Rattle.session_entries.specs.declared.history.Event.TheVariants as event
 use Rattle.session_entries.specs.declared.history.Entry.{Entry}
 
@@ -48,7 +52,8 @@ abbrev pub later : List Job → List Job
 later [] = []
 later (source ∷ more) = more
 
--- what lies in a folder that is merged has this name there, and comes to the same name in the folder at its target
+-- what lies in a folder that is merged has this name there, and comes to the same name in
+-- the folder at its target
 abbrev pub pair_within : Pair → List ℕ → Pair
 pair_within pair name = record { source = name ∷ pair.source; target = name ∷ pair.target }
 
@@ -57,8 +62,9 @@ abbrev pub child_in : Transfer → Pair → List ℕ → Job
 child_in ByCopy pair name = Copy (pair_within pair name ∷ [])
 child_in ByMove pair name = Move (pair_within pair name ∷ [])
 
--- What lies in a folder that is merged with the one at its target, by these names, is copied or moved next, one thing after another. Behind what is moved comes the
--- removal of the folder itself, which is kept where something stayed in it.
+-- What lies in a folder that is merged with the one at its target, by these names, is copied or moved
+-- next, one thing after another. Behind what is moved comes the removal of the folder itself, which is
+-- kept where something stayed in it.
 abbrev pub children_in : Transfer → Pair → List (List ℕ) → List Job
 children_in ByCopy pair names = map (child_in ByCopy pair) names
 children_in ByMove pair names = map (child_in ByMove pair) names ++ RemoveEmptied pair.source ∷ []
@@ -94,7 +100,8 @@ abbrev pub AreInTurn : List Entry → Type 0
 AreInTurn [] = ⊤
 AreInTurn (e ∷ older) = IsInTurn e.what (sources_left older) × AreInTurn older
 
--- The event tells that the job with this number is done with one of its sources: it goes on with the next one, or is finished.
+-- The event tells that the job with this number is done with one of its sources: it goes on with the
+-- next one, or is finished.
 abbrev pub IsDoneWith : ℕ → Event → Type 0
 IsDoneWith id (Next number plan) = number ≡ id
 IsDoneWith id (Step number (Ended Finished part)) = number ≡ id

@@ -1,5 +1,5 @@
-//! What a session writes down of itself: an entry for each key, each look, the steps of a search up to a draw, each job begun, each
-//! order to one and each step of one.
+//! What a session writes down of itself: an entry for each key, each look, the steps of a search up to a
+//! draw, each job begun, each order to one and each step of one.
 use crate::refusal::Refusals;
 use job_reports::{Answer, Did, Job};
 use key_screen::Key;
@@ -40,7 +40,8 @@ pub enum Event {
         job: u32,
         did: Did,
     },
-    /// What the job was to do with one of its sources is done, or was passed over, and it goes on with the next one, of which this is the plan.
+    /// What the job was to do with one of its sources is done, or was passed over, and it goes on with the
+    /// next one, of which this is the plan.
     Next {
         job: u32,
         plan: Job,
@@ -49,8 +50,9 @@ pub enum Event {
     Closed,
 }
 
-/// An entry of the history: who made it (0 is the main thread), how many changing calls the session had made at its end,
-/// how often the tree had failed then, and how many bytes the draws had that had ended with its draw.
+/// An entry of the history: who made it (0 is the main thread), how many changing calls the session
+/// had made at its end, how often the tree had failed then, and how many bytes the draws had that
+/// had ended with its draw.
 #[derive(Debug, Drop)]
 pub struct Entry {
     pub seat: u32,

@@ -18,9 +18,11 @@ pub enum PlanError {
     Nested(Path, Path),
     /// The look at this source is refused.
     Source(Path, TreeError),
-    /// The source mask is no pattern, the destination asks for what it doesn't take, or what was typed makes no name.
+    /// The source mask is no pattern, the destination asks for what it doesn't take, or what
+    /// was typed makes no name.
     BadMask,
-    /// No way leads to the target's folder, nothing can be seen of the target, or its path would have more than 4,096 bytes.
+    /// No way leads to the target's folder, nothing can be seen of the target, or its path would
+    /// have more than 4,096 bytes.
     Target(ResolveError),
     /// Something stands at the target.
     TargetThere(Path),

@@ -1,10 +1,11 @@
--- What the newest entries of a history tell: of a job's end that no look has taken up, and of what a job waits with. Histories stand newest
--- first here.
+-- What the newest entries of a history tell: of a job's end that no look has taken up, and of what a job
+-- waits with. Histories stand newest first here.
 use Rattle.std.specs.Prelude.{Bool, true, false, if◌then◌else◌, List, [], ◌∷◌, Option, Some, None}
 use Rattle.std.specs.Option.{option_map}
 use Rattle.mc_text.specs.Routes.{Route}
 use Rattle.job_reports.specs.Reports.{ends}
-use Rattle.job_reports.specs.declared.report.Did.TheVariants.{Ended, Asked as AskedStep, Troubled as TroubledStep}
+use Rattle.job_reports.specs.declared.report.Did.TheVariants.{Ended, Asked as AskedStep}
+use Rattle.job_reports.specs.declared.report.Did.TheVariants.{Troubled as TroubledStep}
 use Rattle.job_reports.specs.declared.report.Ending.{Ending}
 use Rattle.job_reports.specs.declared.report.Ending.TheVariants.{Finished, Aborted, Killed, NoMemory}
 use Rattle.job_reports.specs.declared.waits.Waits.{Waits}

@@ -1,7 +1,11 @@
-//! The history as it is written: entries are added in room that was made before, so that nothing is half written down.
-ghost use Rattle.std.specs.Prelude.{◌≡◌, ◌+◌, ◌-◌, ◌^◌, ◌≤◌, ◌<◌, [], ◌∷◌, length, IfOk, OnOk, OnErr, reverse};
+//! The history as it is written: entries are added in room that was made before, so that
+//! nothing is half written down.
+ghost use Rattle.std.specs.Prelude.{◌≡◌, ◌+◌, ◌-◌, ◌^◌, ◌≤◌, ◌<◌, [], ◌∷◌};
+ghost use Rattle.std.specs.Prelude.{length, IfOk, OnOk, OnErr, reverse};
 ghost use Rattle.session_log.specs.Logs.{begun_by, entries_with_event, jobs_begun, plain_entry};
-ghost use Rattle.session_log.specs.Told.{end_news as news_of, is_end_or_look as ends_or_looks, is_report as does_report, news_left as last_news, reported_waits as waits_in, told_end, waits_told as last_waits};
+ghost use Rattle.session_log.specs.Told.{end_news as news_of, is_end_or_look as ends_or_looks};
+ghost use Rattle.session_log.specs.Told.{is_report as does_report, news_left as last_news};
+ghost use Rattle.session_log.specs.Told.{reported_waits as waits_in, told_end, waits_told as last_waits};
 
 use job_reports::{Did, Ending, Waits, is_end};
 use mc_text::{NoMemory, Path};
@@ -10,7 +14,8 @@ use std::alloc::Global;
 use std::marker::Model;
 use ui_words::Message;
 
-/// The most entries of a history: no machine has memory for more, and so no count of theirs passes its last value.
+/// The most entries of a history: no machine has memory for more, and so no count of
+/// theirs passes its last value.
 const MOST_ENTRIES: usize = 1 << 56;
 
 /// The entries so far. Contracts see them newest first, and how many more find room.
@@ -26,7 +31,10 @@ impl Model for Log {
 
     ghost Value = { Logged };
 
-    ghost view = { λ l. record { newest = reverse l.entries.items; spare = vec_capacity l.entries - vec_len l.entries } };
+    ghost view = { λ l. record {
+      newest = reverse l.entries.items;
+      spare = vec_capacity l.entries - vec_len l.entries;
+    } };
 }
 
 impl Log {
@@ -141,7 +149,8 @@ fn begun_by(what: &Event) -> u64
     }
 }
 
-/// What is to be told of the last end among these entries, if no look has taken this end up. The newest entry comes last.
+/// What is to be told of the last end among these entries, if no look has taken this end up. The
+/// newest entry comes last.
 fn news_left(alloc: Global, entries: &[Entry]) -> Result<Option<Message>, NoMemory>
     ensures { IfOk result (λ news. news ≡ last_news (reverse entries.now)) }
 {
@@ -204,7 +213,8 @@ fn copied(alloc: Global, path: &Option<Path>) -> Result<Option<Path>, NoMemory>
     }
 }
 
-/// The question or the trouble of the newest report among these entries, if it tells of one. The newest entry comes last.
+/// The question or the trouble of the newest report among these entries, if it tells of one. The
+/// newest entry comes last.
 fn waits_told(alloc: Global, entries: &[Entry]) -> Result<Option<Waits>, NoMemory>
     ensures { IfOk result (λ waits. waits ≡ last_waits (reverse entries.now)) }
 {

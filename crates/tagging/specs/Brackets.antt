@@ -1,4 +1,5 @@
--- What a bracket of a shell pattern stands for (POSIX.1-2017, XCU 2.13.1, with ranges by code point and no classes).
+-- What a bracket of a shell pattern stands for (POSIX.1-2017, XCU 2.13.1, with ranges by
+-- code point and no classes).
 use Rattle.std.specs.Prelude.{ℕ, Bool, ◌&&◌, not, nat_le, if◌then◌else◌, List}
 use Rattle.std.specs.List.{list_any}
 use Rattle.tagging.specs.declared.bracket.Span.{Span}
@@ -14,4 +15,5 @@ spans_over character span = nat_le span.from character && nat_le character span.
 
 -- the bracket stands for the character
 abbrev pub holds : Bracket → ℕ → Bool
-holds bracket character = let listed = list_any (spans_over character) bracket.spans in if bracket.negated then not listed else listed
+holds bracket character = let listed = list_any (spans_over character) bracket.spans in
+    if bracket.negated then not listed else listed

@@ -1,5 +1,7 @@
--- The quick comparison of two folders (mc(1), "Compare directories": quick; that an older file isn't given is our own).
-use Rattle.std.specs.Prelude.{ℕ, Bool, true, ◌||◌, ◌&&◌, not, nat_eq, int_lt, if◌then◌else◌, List, [], ◌∷◌, map, filter, Option, Some, None}
+-- The quick comparison of two folders (mc(1), "Compare directories": quick; that an older file
+-- isn't given is our own).
+use Rattle.std.specs.Prelude.{ℕ, Bool, true, ◌||◌, ◌&&◌, not, nat_eq, int_lt, if◌then◌else◌}
+use Rattle.std.specs.Prelude.{List, [], ◌∷◌, map, filter, Option, Some, None}
 use Rattle.std.specs.Ordering.{int_eq}
 use Rattle.std.specs.Str.{bytes_eq}
 use Rattle.tagging.specs.declared.compare.FileFact.{FileFact}
@@ -23,8 +25,10 @@ stamp_of (fact ∷ facts) name =
 -- the other side has no such file, or an older one, or one as old of another size
 abbrev pub differs : FileFact → Option Stamp → Bool
 differs fact None = true
-differs fact (Some stamp) = int_lt stamp.mtime fact.mtime || (int_eq fact.mtime stamp.mtime && not (nat_eq fact.size stamp.size))
+differs fact (Some stamp) =
+    int_lt stamp.mtime fact.mtime || (int_eq fact.mtime stamp.mtime && not (nat_eq fact.size stamp.size))
 
 -- the names of those files of one side
 abbrev pub differing : List FileFact → List FileFact → List (List ℕ)
-differing mine theirs = map (λ fact. fact.name) (filter (λ fact. differs fact (stamp_of theirs fact.name)) mine)
+differing mine theirs =
+    map (λ fact. fact.name) (filter (λ fact. differs fact (stamp_of theirs fact.name)) mine)

@@ -1,6 +1,7 @@
--- What a shell pattern matches, and what its wildcards take (POSIX.1-2017, XCU 2.13.1 and 2.13.2; the order of cuts is
--- our own, after mc(1), "Copy, Rename, ..": masks). Texts are lists of characters here.
-use Rattle.std.specs.Prelude.{◌≡◌, ℕ, ◌<◌, Bool, true, false, ◌==◌, ◌⊎◌, if◌then◌else◌, List, [], ◌∷◌, length, map, Option, Some, None, is_some, option_map, encode_utf8_all}
+-- What a shell pattern matches, and what its wildcards take (POSIX.1-2017, XCU 2.13.1 and 2.13.2; the order
+-- of cuts is our own, after mc(1), "Copy, Rename, ..": masks). Texts are lists of characters here.
+use Rattle.std.specs.Prelude.{◌≡◌, ℕ, ◌<◌, Bool, true, false, ◌==◌, ◌⊎◌, if◌then◌else◌, List, [], ◌∷◌}
+use Rattle.std.specs.Prelude.{length, map, Option, Some, None, is_some, option_map, encode_utf8_all}
 use Rattle.std.specs.List.{concat}
 use Rattle.tagging.specs.Brackets.{holds}
 use Rattle.tagging.specs.declared.glob.GlobPart.{GlobPart}
@@ -51,7 +52,8 @@ MatchesGlob parts name = (cut : List (List ℕ)) × IsCut parts name cut
 abbrev pub wild_texts : List GlobPart → List (List ℕ) → List (List ℕ)
 wild_texts [] cut = []
 wild_texts (part ∷ parts) [] = []
-wild_texts (part ∷ parts) (text ∷ cut) = if is_wild part then text ∷ wild_texts parts cut else wild_texts parts cut
+wild_texts (part ∷ parts) (text ∷ cut) =
+    if is_wild part then text ∷ wild_texts parts cut else wild_texts parts cut
 
 -- texts that are as long as others, or are longer at the first place where the lengths differ
 abbrev pub AreLongerFirst : List (List ℕ) → List (List ℕ) → Type 0
@@ -64,7 +66,8 @@ AreLongerFirst (text ∷ texts) (other ∷ others) =
 -- the cut whose first wildcard takes the longest text, then the second, and so on
 pub record IsLongestCut (parts : List GlobPart) (name : List ℕ) (cut : List (List ℕ)) : Type 0 where
   pub is_cut : IsCut parts name cut
-  pub longest : (other : List (List ℕ)) → IsCut parts name other → AreLongerFirst (wild_texts parts cut) (wild_texts parts other)
+  pub longest : (other : List (List ℕ)) → IsCut parts name other
+      → AreLongerFirst (wild_texts parts cut) (wild_texts parts other)
 
 -- these are the captures, each as UTF-8
 abbrev pub AreCaptures : List GlobPart → List ℕ → List (List ℕ) → Type 0

@@ -26,7 +26,8 @@ abbrev pub matches_read : Result (List GlobPart) PatternError → List ℕ → B
 matches_read (Ok parts) name = is_match parts (chars name)
 matches_read (Err fault) name = false
 
--- a pattern of this kind finds the name: a shell pattern matches the whole of it, a regular expression a part of it
+-- a pattern of this kind finds the name: a shell pattern matches the whole of it, a
+-- regular expression a part of it
 abbrev pub is_found_by : PatternKind → List ℕ → List ℕ → Bool
 is_found_by Shell text name = matches_read (pattern_of text) name
 is_found_by Regex text name = found_in text name

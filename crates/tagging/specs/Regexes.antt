@@ -1,5 +1,6 @@
 -- What a regular expression over names means, by the grammar and the search of the crate `regex`.
-use Rattle.std.specs.Prelude.{◌≡◌, ℕ, Bool, false, nat_le, List, Option, Some, None, is_some, chars, if◌then◌else◌}
+use Rattle.std.specs.Prelude.{◌≡◌, ℕ, Bool, false, nat_le, List, Option}
+use Rattle.std.specs.Prelude.{Some, None, is_some, chars, if◌then◌else◌}
 use Rattle.std.specs.Option.{option_map_or}
 use Rattle.regex.specs.Patterns.{Re, default_config, SameCaptures, find_str}
 use Rattle.regex_syntax.specs.Brackets.{Nested}

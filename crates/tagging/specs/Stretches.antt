@@ -7,7 +7,8 @@ use Rattle.tagging.specs.declared.walk.Stretch.{Stretch}
 use Rattle.tagging.specs.declared.walk.Stretch.TheVariants.{Whole, Differs, Short, Star}
 
 -- these parts match this text, and behind a `*` too, exactly where a `*` and other parts match another text
-pub record AreMatchedAlike (parts : List GlobPart) (text : List ℕ) (behind : List GlobPart) (rest : List ℕ) : Type 0 where
+pub record AreMatchedAlike (parts : List GlobPart) (text : List ℕ) (behind : List GlobPart)
+    (rest : List ℕ) : Type 0 where
   pub here : is_match parts text ≡ is_match (AnyText ∷ behind) rest
   pub behind_star : is_match (AnyText ∷ parts) text ≡ is_match (AnyText ∷ behind) rest
 

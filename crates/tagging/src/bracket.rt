@@ -21,7 +21,8 @@ impl Span {
     }
 }
 
-/// What a bracket stands for: one character of its list, or where it begins with `!` one that is not of its list.
+/// What a bracket stands for: one character of its list, or where it begins with `!` one
+/// that is not of its list.
 #[derive(Debug, Drop)]
 pub struct BracketSet {
     negated: bool,

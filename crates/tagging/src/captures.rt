@@ -1,5 +1,6 @@
 //! What the wildcards of a pattern take of a name.
-ghost use Rattle.std.specs.Prelude.{◌≡◌, ◌≢◌, List, ◌∷◌, ◌++◌, [], chars, None, IfOk, IfSome, OnOk, MatchOption, if◌then◌else◌};
+ghost use Rattle.std.specs.Prelude.{◌≡◌, ◌≢◌, List, ◌∷◌, ◌++◌, [], chars, None};
+ghost use Rattle.std.specs.Prelude.{IfOk, IfSome, OnOk, MatchOption, if◌then◌else◌};
 ghost use Rattle.tagging.specs.Globs.{is_wild, cut_of, captures_of, AreCaptures};
 ghost use Rattle.tagging.specs.declared.glob.GlobPart.{GlobPart};
 ghost use Rattle.tagging.specs.declared.glob.GlobPart.TheVariants.{AnyText};
@@ -12,9 +13,10 @@ use mc_text::{NoMemory, Text, Texts};
 use std::alloc::Global;
 
 impl ShellPattern {
-    /// The texts that `*`, `?` and the brackets took, in their order, where the pattern matches the name. Where several
-    /// cuts fit, the first takes the longest text, then the second, and so on. Where it doesn't match, the time is that of
-    /// `matches`; where it does, at worst that squared: each `*` tries each length, the longest first.
+    /// The texts that `*`, `?` and the brackets took, in their order, where the pattern matches the name.
+    /// Where several cuts fit, the first takes the longest text, then the second, and so on. Where it
+    /// doesn't match, the time is that of `matches`; where it does, at worst that squared: each `*` tries
+    /// each length, the longest first.
     pub fn captures(&self, alloc: Global, name: &str) -> Result<Option<Texts>, NoMemory>
         ensures longest { IfOk result (λ found. IfSome found (AreCaptures self.now (chars name.now))) }
         ensures value { IfOk result (λ found. found ≡ captures_of self.now (chars name.now)) }
@@ -51,7 +53,8 @@ fn capture(alloc: Global, captured: &mut Texts, part: &GlobPart, text: &str) -> 
     Ok(())
 }
 
-/// The text that the part takes at the front, as long as may be, and the text behind it, which the parts behind match.
+/// The text that the part takes at the front, as long as may be, and the text behind it,
+/// which the parts behind match.
 fn front_of<'a>(part: &GlobPart, behind: &[GlobPart], text: &'a str) -> Option<(&'a str, &'a str)>
     ensures { MatchOption result (cut_of (part.now ∷ behind.now) (chars text.now) ≡ None)
         (λ (front, more). IsPrefixTaken part.now behind.now text.now front.now more.now) }
@@ -93,7 +96,8 @@ fn shortest_end<'a>(parts: &[GlobPart], text: &'a str) -> Option<&'a str>
 /// The text behind the one character that the part takes.
 fn behind_one<'a>(part: &GlobPart, text: &'a str) -> Option<&'a str>
     requires { part.now ≢ AnyText }
-    ensures { MatchOption result ((behind : List GlobPart) → cut_of (part.now ∷ behind) (chars text.now) ≡ None)
+    ensures { MatchOption result
+        ((behind : List GlobPart) → cut_of (part.now ∷ behind) (chars text.now) ≡ None)
         (λ more. (behind : List GlobPart) → LeavesCut part.now behind text.now more.now) }
 {
     let (character, more) = first_char(text)?;

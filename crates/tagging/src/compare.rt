@@ -23,8 +23,9 @@ pub struct Stamp {
     mtime: i64,
 }
 
-/// Each side's files whose name the other side lacks, or that are newer than the other side's file of that name, or that
-/// are as old and have another size. A file that is older isn't given. The order is that of each side.
+/// Each side's files whose name the other side lacks, or that are newer than the other side's file
+/// of that name, or that are as old and have another size. A file that is older isn't given. The
+/// order is that of each side.
 ///
 /// Each side is sorted once, so the time grows as the number of files times its logarithm.
 pub fn compare_quick(

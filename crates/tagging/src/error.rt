@@ -2,8 +2,9 @@
 use std::alloc::{AllocError, AllocFailed};
 use thiserror::Error;
 
-/// Why a text is no pattern. `OpenBracket` has the byte of a `[` that nothing closes, `TrailingBackslash` the byte of a
-/// backslash that ends the text; both are of shell patterns. `BadPattern` is of regular expressions.
+/// Why a text is no pattern. `OpenBracket` has the byte of a `[` that nothing closes,
+/// `TrailingBackslash` the byte of a backslash that ends the text; both are of shell patterns.
+/// `BadPattern` is of regular expressions.
 #[derive(Clone, Copy, Debug, Drop, Error, PartialEq, Eq)]
 pub enum PatternError {
     #[error("no ] for the [ at byte {0}")]

@@ -3,7 +3,8 @@ ghost use Rattle.std.specs.Prelude.{◌≡◌, ◌<◌, [], ◌∷◌, ◌++◌,
 
 /// The first character of a text and the text behind it.
 pub fn first_char(text: &str) -> Option<(char, &str)>
-    ensures first { MatchOption result (chars text.now ≡ []) (λ first. chars text.now ≡ first.0 ∷ chars first.1.now) }
+    ensures first { MatchOption result (chars text.now ≡ []) (λ first.
+        chars text.now ≡ first.0 ∷ chars first.1.now) }
     ensures bytes { IfSome result (λ first. text.now ≡ encode_utf8 first.0 ++ first.1.now) }
     ensures shorter { MatchOption result (text.now ≡ []) (λ first. length first.1.now < length text.now) }
 {

@@ -72,8 +72,8 @@ impl ShellPattern {
         self.parts.as_slice()
     }
 
-    /// Whether the pattern matches the whole name. It takes no memory, and at worst a time that grows as the number of
-    /// parts times the name's length.
+    /// Whether the pattern matches the whole name. It takes no memory, and at worst a time that grows as
+    /// the number of parts times the name's length.
     pub fn matches(&self, name: &str) -> bool
         ensures cut { IsTrue result ↔ MatchesGlob self.now (chars name.now) }
         ensures test { result ≡ is_match self.now (chars name.now) }

@@ -1,4 +1,5 @@
-//! Shell patterns with their captures, regular expressions over names, tags, and the comparison of two folders.
+//! Shell patterns with their captures, regular expressions over names, tags, and the
+//! comparison of two folders.
 #![tactic(auto)]
 
 mod bracket;

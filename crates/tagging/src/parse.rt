@@ -1,6 +1,8 @@
 //! Reading a shell pattern.
-ghost use Rattle.std.specs.Prelude.{◌≡◌, ◌≢◌, ◌≤◌, [], ◌∷◌, length, chars, false, option_map, Ok, Err, None, IfOk, IfErr, IfSome, MatchOption};
-ghost use Rattle.tagging.specs.GlobText.{pattern_of, first_part, bracket_of, marks_of, marks_up_to_close, after_marks, spans_after, is_dash};
+ghost use Rattle.std.specs.Prelude.{◌≡◌, ◌≢◌, ◌≤◌, [], ◌∷◌, length, chars, false, option_map};
+ghost use Rattle.std.specs.Prelude.{Ok, Err, None, IfOk, IfErr, IfSome, MatchOption};
+ghost use Rattle.tagging.specs.GlobText.{pattern_of, first_part, bracket_of, marks_of};
+ghost use Rattle.tagging.specs.GlobText.{marks_up_to_close, after_marks, spans_after, is_dash};
 
 use crate::bracket::{BracketSet, Span};
 use crate::error::PatternError;
@@ -49,8 +51,10 @@ fn read_part(
     first: char,
     behind: &str,
 ) -> Result<(GlobPart, &str), PatternError>
-    ensures read { IfOk result (λ (part, more). first_part at first (chars behind.now) ≡ Ok (part, chars more.now)) }
-    ensures refused { IfErr result (λ e. e ≢ PatternError.Memory → first_part at first (chars behind.now) ≡ Err e) }
+    ensures read { IfOk result (λ (part, more).
+        first_part at first (chars behind.now) ≡ Ok (part, chars more.now)) }
+    ensures refused { IfErr result (λ e. e ≢ PatternError.Memory
+        → first_part at first (chars behind.now) ≡ Err e) }
     ensures shrinks { IfOk result (λ (part, more). length more.now ≤ length behind.now) }
 {
     match first {
@@ -70,9 +74,11 @@ fn read_part(
 
 /// The bracket whose `[` stands before the text, and the text behind its `]`. Nothing where no `]` closes it.
 fn read_bracket(alloc: Global, text: &str) -> Result<Option<(BracketSet, &str)>, PatternError>
-    ensures read { IfOk result (λ found. option_map (λ (bracket, more). (bracket, chars more.now)) found ≡ bracket_of (chars text.now)) }
+    ensures read { IfOk result (λ found.
+        option_map (λ (bracket, more). (bracket, chars more.now)) found ≡ bracket_of (chars text.now)) }
     ensures refused { IfErr result (λ e. e ≡ PatternError.Memory) }
-    ensures shrinks { IfOk result (λ found. IfSome found (λ (bracket, more). length more.now ≤ length text.now)) }
+    ensures shrinks { IfOk result
+        (λ found. IfSome found (λ (bracket, more). length more.now ≤ length text.now)) }
 {
     let (negated, list) = match first_char(text) {
         Some(('!', list)) => (true, list),
@@ -87,11 +93,14 @@ fn read_bracket(alloc: Global, text: &str) -> Result<Option<(BracketSet, &str)>,
     }
 }
 
-/// The characters of a list up to the `]` that closes it, and the text behind that. A `]` at its front is a member.
+/// The characters of a list up to the `]` that closes it, and the text behind that. A `]`
+/// at its front is a member.
 fn read_marks(alloc: Global, list: &str) -> Result<Option<(Vec<Mark>, &str)>, PatternError>
-    ensures read { IfOk result (λ found. option_map (λ (marks, more). (marks.items, chars more.now)) found ≡ marks_of (chars list.now)) }
+    ensures read { IfOk result (λ found.
+        option_map (λ (marks, more). (marks.items, chars more.now)) found ≡ marks_of (chars list.now)) }
     ensures refused { IfErr result (λ e. e ≡ PatternError.Memory) }
-    ensures shrinks { IfOk result (λ found. IfSome found (λ (marks, more). length more.now ≤ length list.now)) }
+    ensures shrinks { IfOk result
+        (λ found. IfSome found (λ (marks, more). length more.now ≤ length list.now)) }
 {
     let mut marks = Vec::new(alloc);
     match first_char(list) {
@@ -134,7 +143,8 @@ fn read_to_close(
 fn read_mark(character: char, behind: &str) -> Option<(Mark, &str)>
     requires { character ≢ 93 }
     ensures read { MatchOption result (marks_up_to_close false (character ∷ chars behind.now) ≡ None)
-        (λ (mark, more). marks_up_to_close false (character ∷ chars behind.now) ≡ after_marks (mark ∷ []) (marks_up_to_close false (chars more.now))) }
+        (λ (mark, more). marks_up_to_close false (character ∷ chars behind.now)
+        ≡ after_marks (mark ∷ []) (marks_up_to_close false (chars more.now))) }
     ensures shrinks { IfSome result (λ (mark, more). length more.now ≤ length behind.now) }
 {
     if character == '\\' {

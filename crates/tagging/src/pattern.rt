@@ -1,5 +1,6 @@
 //! A pattern over names: a shell pattern or a regular expression.
-ghost use Rattle.std.specs.Prelude.{◌≡◌, ◌≢◌, true, None, Ok, Err, is_ok, is_some, filter, IfOk, IfErr, chars};
+ghost use Rattle.std.specs.Prelude.{◌≡◌, ◌≢◌, true, None, Ok, Err, is_ok};
+ghost use Rattle.std.specs.Prelude.{is_some, filter, IfOk, IfErr, chars};
 ghost use Rattle.tagging.specs.GlobText.{pattern_of};
 ghost use Rattle.tagging.specs.Regexes.{meaning_of, found_in};
 ghost use Rattle.tagging.specs.Patterns.{is_pattern_of, is_found};
@@ -20,8 +21,8 @@ pub enum PatternKind {
     Regex,
 }
 
-/// A pattern over names. It keeps its text, which was read once as a test, so threads may share it. Contracts see its
-/// kind and its text.
+/// A pattern over names. It keeps its text, which was read once as a test, so threads may share it.
+/// Contracts see its kind and its text.
 #[derive(Debug, Drop)]
 pub struct Pattern {
     kind: PatternKind,
@@ -57,7 +58,8 @@ impl Pattern {
     pub fn regex(alloc: Global, text: &str) -> Result<Pattern, PatternError>
         ensures ok { IfOk result (λ p. p ≡ record { kind = PatternKind.Regex; text = text.now }) }
         ensures is_pattern { IfOk result (λ _. is_pattern_of PatternKind.Regex text.now ≡ true) }
-        ensures refused { IfErr result (λ e. e ≢ PatternError.Memory → (e ≡ PatternError.BadPattern) × (meaning_of text.now ≡ None)) }
+        ensures refused { IfErr result
+            (λ e. e ≢ PatternError.Memory → (e ≡ PatternError.BadPattern) × (meaning_of text.now ≡ None)) }
     {
         NameRegex::new(alloc, text)?;
         Ok(Pattern {

@@ -32,8 +32,8 @@ impl Model for NameRegex {
 }
 
 impl NameRegex {
-    /// Compiles a regular expression. `BadPattern` says that the text is none; tables past the size limit count as want
-    /// of memory.
+    /// Compiles a regular expression. `BadPattern` says that the text is none; tables past the size limit
+    /// count as want of memory.
     pub fn new(alloc: Global, text: &str) -> Result<NameRegex, PatternError>
         ensures ok { IfOk result (λ p. p ≡ text.now) }
         ensures is_pattern { IfOk result (λ _. is_some (meaning_of text.now) ≡ true) }
@@ -72,7 +72,8 @@ impl NameRegex {
 
 /// Whether the matcher finds its pattern in the name.
 fn finds(matcher: &mut Matcher<'_>, name: &str) -> bool
-    ensures found { (text : List ℕ) → IsMeantBy text (matcher_pattern matcher.old) → result ≡ found_in text name.now }
+    ensures found { (text : List ℕ) → IsMeantBy text (matcher_pattern matcher.old)
+        → result ≡ found_in text name.now }
     ensures same { matcher_pattern matcher.new ≡ matcher_pattern matcher.old }
 {
     matcher.is_match(name)

@@ -16,8 +16,9 @@ use std::marker::Model;
 
 /// The tagged names. Contracts see their set.
 ///
-/// A look takes a time that grows as the logarithm of the number of tags. A call over names makes the new set beside the
-/// old one, so a refused call leaves the tags as they were; its time grows as the number of tags and names, times that.
+/// A look takes a time that grows as the logarithm of the number of tags. A call over names makes the new
+/// set beside the old one, so a refused call leaves the tags as they were; its time grows as the number of
+/// tags and names, times that.
 #[derive(Drop)]
 pub struct Tags {
     names: BTreeSet<String>,
@@ -75,7 +76,8 @@ impl Tags {
         names: &Names,
         pattern: &Pattern,
     ) -> Result<(), NoMemory>
-        ensures done { OnOk result (self.new ≡ set.union self.old (names_in (filter (is_found pattern.now) names.now))) }
+        ensures done { OnOk result
+            (self.new ≡ set.union self.old (names_in (filter (is_found pattern.now) names.now))) }
         ensures refused { OnErr result (self.new ≡ self.old) }
     {
         let found = pattern.found_among(alloc, names)?;
@@ -94,7 +96,8 @@ impl Tags {
         names: &Names,
         pattern: &Pattern,
     ) -> Result<(), NoMemory>
-        ensures done { OnOk result (self.new ≡ set.difference self.old (names_in (filter (is_found pattern.now) names.now))) }
+        ensures done { OnOk result
+            (self.new ≡ set.difference self.old (names_in (filter (is_found pattern.now) names.now))) }
         ensures refused { OnErr result (self.new ≡ self.old) }
     {
         let found = pattern.found_among(alloc, names)?;
@@ -163,7 +166,8 @@ impl Tags {
 
     /// Tags the name, or takes its tag.
     fn set(&mut self, alloc: Global, name: &Name, tagged: bool) -> Result<(), NoMemory>
-        ensures done { OnOk result (self.new ≡ (if tagged then set.insert self.old name.now else set.remove self.old name.now)) }
+        ensures done { OnOk result
+            (self.new ≡ (if tagged then set.insert self.old name.now else set.remove self.old name.now)) }
         ensures refused { OnErr result (self.new ≡ self.old) }
     {
         if tagged {

@@ -1,7 +1,8 @@
 //! Whether the parts of a pattern match a text.
 //!
-//! The parts up to the next `*` are tried where the text stands. Where they differ, only the last `*` before them takes
-//! one character more: an earlier one that took more could bring nothing that the later one can't take itself.
+//! The parts up to the next `*` are tried where the text stands. Where they differ, only the last `*`
+//! before them takes one character more: an earlier one that took more could bring nothing that the
+//! later one can't take itself.
 ghost use Rattle.std.specs.Prelude.{◌≡◌, ◌∷◌, chars};
 ghost use Rattle.tagging.specs.Globs.{is_match};
 ghost use Rattle.tagging.specs.Stretches.{IsStretch, IsShrunk};

@@ -1,4 +1,5 @@
--- The lines of a text (POSIX.1-2017, 3.206 Line; that a last line needs no newline is own). A newline is the byte 10.
+-- The lines of a text (POSIX.1-2017, 3.206 Line; that a last line needs no newline is own).
+-- A newline is the byte 10.
 use Rattle.std.specs.Prelude.{◌≡◌, ℕ, false, ◌==◌, List, [], ◌∷◌, if◌then◌else◌}
 use Rattle.std.specs.List.{AllByRecursion}
 

@@ -1,6 +1,7 @@
--- Where a regular expression is first found in a file, line by line (own: of what a line may have; its meaning is that of the
--- crate `regex`, in its form for bytes).
-use Rattle.std.specs.Prelude.{◌≡◌, ℕ, zero, suc, ◌+◌, ◌==◌, Bool, false, nat_lt, List, [], ◌∷◌, length, Option, Some, None, is_some, option_map, chars, if◌then◌else◌}
+-- Where a regular expression is first found in a file, line by line (own: of what a line may have; its
+-- meaning is that of the crate `regex`, in its form for bytes).
+use Rattle.std.specs.Prelude.{◌≡◌, ℕ, zero, suc, ◌+◌, ◌==◌, Bool, false, nat_lt, List, [], ◌∷◌}
+use Rattle.std.specs.Prelude.{length, Option, Some, None, is_some, option_map, chars, if◌then◌else◌}
 use Rattle.std.specs.Option.{option_map_or}
 use Rattle.regex.specs.Patterns.{Re, Config, default_config, SameCaptures, find}
 use Rattle.regex_syntax.specs.Brackets.{Nested}
@@ -40,14 +41,15 @@ unfoldable pub first_line : List ℕ → List ℕ
 first_line [] = []
 first_line (byte ∷ rest) = if byte == 10 then [] else byte ∷ first_line rest
 
--- what a line comes to that begins at a place, where `behind` is what comes of those behind it; one of more than 1,048,576
--- bytes isn't searched
+-- what a line comes to that begins at a place, where `behind` is what comes of those behind it; one of more
+-- than 1,048,576 bytes isn't searched
 abbrev pub with_line : List ℕ → ℕ → List ℕ → Sought → Sought
 with_line text at line behind =
     if nat_lt 1048576 (length line) then TooLong at
     else option_map_or (λ k. At (at + k)) (line_place text line) behind
 
--- what the lines of a rest of a file come to that begins at this place; so many bytes of it belong to a line before
+-- what the lines of a rest of a file come to that begins at this place; so many bytes of
+-- it belong to a line before
 unfoldable pub in_lines : List ℕ → ℕ → ℕ → List ℕ → Sought
 in_lines text at skip [] = Nowhere
 in_lines text at (suc skip) (byte ∷ rest) = in_lines text (at + 1) skip rest

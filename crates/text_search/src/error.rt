@@ -2,7 +2,8 @@
 use std::alloc::AllocError;
 use thiserror::Error;
 
-/// Why a text isn't compiled: it is no regular expression, or it is one whose tables would pass the limit, or memory is wanting.
+/// Why a text isn't compiled: it is no regular expression, or it is one whose tables would pass the
+/// limit, or memory is wanting.
 #[derive(Clone, Copy, Debug, Drop, Error, PartialEq, Eq)]
 pub enum RegexError {
     #[error("no regular expression")]

@@ -40,12 +40,14 @@ impl<'r> LineMatcher<'r> {
         LineMatcher { text, matcher }
     }
 
-    /// Searches a part of a file, that begins where a line begins. It ends with the file where it has fewer bytes than a part
-    /// may have. A line is searched where its newline is there too, or the file ends behind it.
+    /// Searches a part of a file, that begins where a line begins. It ends with the file where it
+    /// has fewer bytes than a part may have. A line is searched where its newline is there too, or
+    /// the file ends behind it.
     pub fn search(&mut self, part: &[u8]) -> Part
         requires some { 1 ≤ length part.now }
         requires short { length part.now ≤ 1048577 }
-        ensures answer { (at : ℕ) (rest : List ℕ) → part.now ≡ take 1048577 rest → Answers self.old at rest result }
+        ensures answer { (at : ℕ) (rest : List ℕ) → part.now ≡ take 1048577 rest
+            → Answers self.old at rest result }
         ensures within { IsWithin part.now result }
         ensures same { self.new ≡ self.old }
     {
@@ -82,7 +84,8 @@ impl<'r> LineMatcher<'r> {
 
 /// How many bytes the first line has, where it ends within a part: at a newline, or at the end of the file.
 fn line_bytes(part: &[u8], is_last: bool) -> Option<usize>
-    ensures { MatchOption result ((is_last ≡ false) × (first_line part.now ≡ part.now)) (IsLine part.now is_last) }
+    ensures { MatchOption result ((is_last ≡ false) × (first_line part.now ≡ part.now))
+        (IsLine part.now is_last) }
 {
     match memchr(b'\n', part) {
         Some(newline) => Some(newline),

@@ -33,8 +33,8 @@ impl Model for LineRegex {
 }
 
 impl LineRegex {
-    /// Compiles a regular expression. `BadPattern` says that the text is none, `TooBig` that it is one whose tables would pass
-    /// the size limit.
+    /// Compiles a regular expression. `BadPattern` says that the text is none, `TooBig` that it is one
+    /// whose tables would pass the size limit.
     pub fn new(alloc: Global, text: &str) -> Result<LineRegex, RegexError>
         ensures ok { IfOk result (λ regex. regex ≡ text.now) }
         ensures is_pattern { IfOk result (λ _. is_pattern text.now ≡ true) }
@@ -59,7 +59,8 @@ impl LineRegex {
     }
 }
 
-/// What an error of `regex` says. A failed internal check is none: with so small tables there is no such error.
+/// What an error of `regex` says. A failed internal check is none: with so small
+/// tables there is no such error.
 fn error_of(error: regex::Error) -> RegexError
     requires { error ≢ Internal }
     ensures { result ≡ error_of error }

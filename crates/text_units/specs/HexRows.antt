@@ -1,5 +1,6 @@
 -- A row of at most sixteen bytes in hexadecimal (own).
-use Rattle.std.specs.Prelude.{ℕ, zero, suc, ◌+◌, ◌-◌, ◌*◌, ◌/◌, ◌%◌, ◌^◌, ◌==◌, min, slice_index, nat_le, nat_lt, ◌&&◌, ◌||◌, List, [], ◌∷◌, length, if◌then◌else◌}
+use Rattle.std.specs.Prelude.{ℕ, zero, suc, ◌+◌, ◌-◌, ◌*◌, ◌/◌, ◌%◌, ◌^◌, ◌==◌, min, slice_index}
+use Rattle.std.specs.Prelude.{nat_le, nat_lt, ◌&&◌, ◌||◌, List, [], ◌∷◌, length, if◌then◌else◌}
 
 -- a digit below 16, in lower case
 abbrev pub hex_digit : ℕ → ℕ
@@ -37,13 +38,16 @@ behind_offset bytes column =
 unfoldable pub hex_column : ℕ → List ℕ → ℕ → ℕ
 hex_column offset bytes column =
     let digits = offset_digits offset in
-    if nat_lt column digits then digit_at offset (digits - 1 - column) else behind_offset bytes (column - digits)
+    if nat_lt column digits then digit_at offset (digits - 1 - column)
+    else behind_offset bytes (column - digits)
 
 -- so many columns of a row, from one on
 unfoldable pub hex_columns : ℕ → List ℕ → ℕ → ℕ → List ℕ
 hex_columns offset bytes column zero = []
-hex_columns offset bytes column (suc count) = hex_column offset bytes column ∷ hex_columns offset bytes (column + 1) count
+hex_columns offset bytes column (suc count) =
+    hex_column offset bytes column ∷ hex_columns offset bytes (column + 1) count
 
 -- the row of at most sixteen bytes, cut at the columns of the screen
 abbrev pub hex_row : ℕ → ℕ → List ℕ → List ℕ
-hex_row columns offset bytes = hex_columns offset bytes 0 (min columns (offset_digits offset + 52 + length bytes))
+hex_row columns offset bytes =
+    hex_columns offset bytes 0 (min columns (offset_digits offset + 52 + length bytes))

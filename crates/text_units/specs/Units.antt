@@ -1,6 +1,7 @@
--- What a unit of a text shows, in which columns, and what of it is in sight (own). A unit is a character, a cluster, or a byte
--- that belongs to none.
-use Rattle.std.specs.Prelude.{ℕ, ◌+◌, ◌-◌, ◌%◌, ◌==◌, min, max, Bool, ◌&&◌, List, [], ◌∷◌, replicate, if◌then◌else◌}
+-- What a unit of a text shows, in which columns, and what of it is in sight (own). A unit is a character, a
+-- cluster, or a byte that belongs to none.
+use Rattle.std.specs.Prelude.{ℕ, ◌+◌, ◌-◌, ◌%◌, ◌==◌, min, max, Bool, ◌&&◌}
+use Rattle.std.specs.Prelude.{List, [], ◌∷◌, replicate, if◌then◌else◌}
 use Rattle.std.specs.Str.{bytes_eq, is_utf8}
 use Rattle.mc_text.specs.Fit.{cluster_columns}
 use Rattle.mc_text.specs.Drawn.{is_drawable}
@@ -9,8 +10,8 @@ use Rattle.mc_text.specs.Drawn.{is_drawable}
 abbrev pub is_shown : List ℕ → Bool
 is_shown unit = is_utf8 unit && is_drawable unit
 
--- the columns of a unit that begins in this column: a tab goes to the next multiple of 8, and what doesn't show as itself
--- has one
+-- the columns of a unit that begins in this column: a tab goes to the next multiple of 8, and what
+-- doesn't show as itself has one
 unfoldable pub unit_columns : ℕ → List ℕ → ℕ
 unit_columns column unit =
     if bytes_eq unit (9 ∷ []) then 8 - column % 8 else if is_shown unit then cluster_columns unit else 1

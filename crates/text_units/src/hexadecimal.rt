@@ -1,7 +1,10 @@
-//! Rows of bytes in hexadecimal: an offset, the digits of at most sixteen bytes, and the bytes as characters, column by column.
+//! Rows of bytes in hexadecimal: an offset, the digits of at most sixteen bytes, and the bytes as
+//! characters, column by column.
 
-ghost use Rattle.std.specs.Prelude.{◌≡◌, ◌+◌, ◌-◌, ◌*◌, ◌<◌, ◌≤◌, ◌/◌, ◌%◌, ◌^◌, ◌++◌, length, min, string_bytes, IfOk};
-ghost use Rattle.text_units.specs.HexRows.{hex_digit, offset_digits, digit_at, byte_column, digits_column, printed_byte, behind_offset, hex_column, hex_columns, hex_row};
+ghost use Rattle.std.specs.Prelude.{◌≡◌, ◌+◌, ◌-◌, ◌*◌, ◌<◌, ◌≤◌, ◌/◌, ◌%◌};
+ghost use Rattle.std.specs.Prelude.{◌^◌, ◌++◌, length, min, string_bytes, IfOk};
+ghost use Rattle.text_units.specs.HexRows.{hex_digit, offset_digits, digit_at, byte_column, digits_column};
+ghost use Rattle.text_units.specs.HexRows.{printed_byte, behind_offset, hex_column, hex_columns, hex_row};
 
 use mc_text::{NoMemory, Text};
 use std::alloc::Global;

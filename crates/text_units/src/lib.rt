@@ -1,5 +1,5 @@
-//! What a unit of a text shows: itself, blanks for a tab, and else a dot; in which columns; and what of it is in sight. And what a byte
-//! shows: rows in hexadecimal.
+//! What a unit of a text shows: itself, blanks for a tab, and else a dot; in which columns; and what of it
+//! is in sight. And what a byte shows: rows in hexadecimal.
 #![tactic(auto)]
 
 mod columns;

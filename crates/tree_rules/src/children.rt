@@ -17,7 +17,8 @@ use tree_trait::{Children, FileSystem, NameEdit, TreeError};
 /// Where a name goes in names in order, and whether it is there.
 fn place_among(names: &[Name], name: &Name) -> (usize, bool)
     ensures within { result.0 ≤ length names.now }
-    ensures place { with_name name.now names.now ≡ (if result.1 then names.now else insert names.now result.0 name.now) }
+    ensures place { with_name name.now names.now
+        ≡ (if result.1 then names.now else insert names.now result.0 name.now) }
 {
     match names {
         [] => (0, false),

@@ -1,4 +1,5 @@
-//! What a file system in memory says to each call: where a path leads, what refuses the call, and what it reads.
+//! What a file system in memory says to each call: where a path leads, what refuses the
+//! call, and what it reads.
 #![tactic(auto)]
 
 mod children;

@@ -1,5 +1,6 @@
 //! What names lead to, and what stands at a node.
-ghost use Rattle.std.specs.Prelude.{◌≡◌, ◌<◌, ◌==◌, ◌&&◌, length, true, false, is_some, IfSome, unwrap_or, None, slice_get, bit_and};
+ghost use Rattle.std.specs.Prelude.{◌≡◌, ◌<◌, ◌==◌, ◌&&◌, length, true, false, is_some};
+ghost use Rattle.std.specs.Prelude.{IfSome, unwrap_or, None, slice_get, bit_and};
 ghost use Rattle.std.specs.List.{list_any};
 ghost use Rattle.tree_trait.specs.declared.file_system.NameEdit.{NameEdit};
 ghost use Rattle.tree_trait.specs.FileSystem.{lookup, node, is_of, starts_mount};
@@ -23,7 +24,8 @@ pub fn lookup(names: &[NameEdit], folder: usize, name: &Name) -> Option<usize>
 /// The place of the newest edit of a name.
 pub fn place_of(names: &[NameEdit], folder: usize, name: &Name) -> Option<usize>
     ensures within { IfSome result (λ k. k < length names.now) }
-    ensures edit { IfSome result (λ k. (e : NameEdit) × (slice_get names.now k ≡ Some e) × (is_of folder name.now e ≡ true)) }
+    ensures edit { IfSome result (λ k. (e : NameEdit) × (slice_get names.now k ≡ Some e)
+        × (is_of folder name.now e ≡ true)) }
     ensures none { result ≡ None → list_any (is_of folder name.now) names.now ≡ false }
 {
     for (k, e) in names.iter().enumerate() {

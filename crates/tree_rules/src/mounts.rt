@@ -1,7 +1,9 @@
 //! On which mount a path lies, and how full the mount is.
-ghost use Rattle.std.specs.Prelude.{◌≡◌, ◌≤◌, ◌+◌, ◌^◌, ◌&&◌, nat_lt, length, suc, reverse, MatchOption, Some, if◌then◌else◌};
+ghost use Rattle.std.specs.Prelude.{◌≡◌, ◌≤◌, ◌+◌, ◌^◌, ◌&&◌, nat_lt, length, suc};
+ghost use Rattle.std.specs.Prelude.{reverse, MatchOption, Some, if◌then◌else◌};
 ghost use Rattle.tree_trait.specs.FileSystem.{node};
-ghost use Rattle.tree_trait.specs.Refusals.{is_file, mount_here, mount_of, same_mount, holder, lies_on, used_by, capacity_of, no_room};
+ghost use Rattle.tree_trait.specs.Refusals.{is_file, mount_here, mount_of, same_mount};
+ghost use Rattle.tree_trait.specs.Refusals.{holder, lies_on, used_by, capacity_of, no_room};
 ghost use Rattle.tree_trait.specs.Answers.{mount_number};
 ghost use Rattle.tree_rules.specs.Spot.{place_of};
 
@@ -71,7 +73,8 @@ fn lies_on(fs: &FileSystem, height: usize, mount: usize, i: usize) -> bool
 
 /// How many bytes the first nodes have that are files on a mount, if a `u64` holds their number.
 pub fn used_by(fs: &FileSystem, count: usize, mount: usize) -> Option<u64>
-    ensures { MatchOption result (2 ^ 64 ≤ used_by count fs.now mount) (λ bytes. bytes ≡ used_by count fs.now mount) }
+    ensures { MatchOption result (2 ^ 64 ≤ used_by count fs.now mount)
+        (λ bytes. bytes ≡ used_by count fs.now mount) }
 {
     if count == 0 {
         return Some(0);
@@ -85,7 +88,8 @@ pub fn used_by(fs: &FileSystem, count: usize, mount: usize) -> Option<u64>
 
 /// How many bytes a node takes of a mount.
 fn own_bytes(fs: &FileSystem, i: usize, mount: usize) -> u64
-    ensures { result ≡ (if is_file (node fs.now i) && lies_on (suc (length fs.now.nodes)) fs.now mount i then length (node fs.now i).bytes else 0) }
+    ensures { result ≡ (if is_file (node fs.now i) && lies_on (suc (length fs.now.nodes)) fs.now mount i
+        then length (node fs.now i).bytes else 0) }
 {
     if file_at(fs, i) && lies_on(fs, fs.nodes.len(), mount, i) {
         size_at(fs, i) as u64
@@ -112,7 +116,8 @@ fn capacity_of(mounts: &[Mount], folder: usize) -> u64
 
 /// Whether a mount can't hold so many bytes besides those that its files have.
 pub fn is_full(fs: &FileSystem, mount: usize, more: u64) -> bool
-    ensures { result ≡ nat_lt (capacity_of fs.now.mounts mount) (used_by (length fs.now.nodes) fs.now mount + more) }
+    ensures { result ≡ nat_lt (capacity_of fs.now.mounts mount)
+        (used_by (length fs.now.nodes) fs.now mount + more) }
 {
     let capacity = capacity_of(fs.mounts.as_slice(), mount);
     match used_by(fs, fs.nodes.len(), mount) {

@@ -1,8 +1,14 @@
-//! What refuses the calls that change a tree: the first of their checks that stands, after the walk to their path.
-ghost use Rattle.std.specs.Prelude.{◌≡◌, ◌∷◌, ◌+◌, ◌≤◌, ◌^◌, ◌&&◌, ◌||◌, is_some, [], None, Ok, MatchResult, length, not, reverse};
-ghost use Rattle.tree_trait.specs.Calls.{Stat, ListFolder, ReadAt, ReadLink, MakeFile, WriteAt, SetMode, Rename, RemoveFile, RemoveFolder, SyncFile, SyncFolder};
-ghost use Rattle.tree_trait.specs.Refusals.{refusal_of, is_folder, lacks, first_of, is_link, missing, exists, a_folder, no_folder, a_special, denied_access, thing, folder_of, is_empty, is_mount, no_room, rename_refusal};
-ghost use Rattle.tree_trait.specs.declared.calls.TreeError.TheVariants.{NoSpace, Special, Mounted, NotEmpty, Denied, IsFolder, NotFolder};
+//! What refuses the calls that change a tree: the first of their checks that stands,
+//! after the walk to their path.
+ghost use Rattle.std.specs.Prelude.{◌≡◌, ◌∷◌, ◌+◌, ◌≤◌, ◌^◌, ◌&&◌, ◌||◌, is_some};
+ghost use Rattle.std.specs.Prelude.{[], None, Ok, MatchResult, length, not, reverse};
+ghost use Rattle.tree_trait.specs.Calls.{Stat, ListFolder, ReadAt, ReadLink, MakeFile, WriteAt, SetMode};
+ghost use Rattle.tree_trait.specs.Calls.{Rename, RemoveFile, RemoveFolder, SyncFile, SyncFolder};
+ghost use Rattle.tree_trait.specs.Refusals.{refusal_of, is_folder, lacks, first_of, is_link, missing};
+ghost use Rattle.tree_trait.specs.Refusals.{exists, a_folder, no_folder, a_special, denied_access, thing};
+ghost use Rattle.tree_trait.specs.Refusals.{folder_of, is_empty, is_mount, no_room, rename_refusal};
+ghost use Rattle.tree_trait.specs.declared.calls.TreeError.TheVariants.{NoSpace, Special, Mounted, NotEmpty};
+ghost use Rattle.tree_trait.specs.declared.calls.TreeError.TheVariants.{Denied, IsFolder, NotFolder};
 ghost use Rattle.tree_rules.specs.Spot.{place_of};
 
 use crate::lookups::{
@@ -63,7 +69,8 @@ pub fn refuse_list(fs: &FileSystem, names: &[Name]) -> Option<TreeError>
 
 /// The checks of a making.
 fn check_make(fs: &FileSystem, spot: &Spot) -> Option<TreeError>
-    ensures { result ≡ first_of (exists (place_of spot.now) ∷ denied_access 0o200 (folder_of fs.now (place_of spot.now)) ∷ []) }
+    ensures { result ≡ first_of
+        (exists (place_of spot.now) ∷ denied_access 0o200 (folder_of fs.now (place_of spot.now)) ∷ []) }
 {
     if spot.there.is_some() {
         return Some(TreeError::Exists);
@@ -160,7 +167,8 @@ pub fn refuse_read(fs: &FileSystem, names: &[Name], offset: u64, count: usize) -
 
 /// The checks of `read_link`.
 fn check_link(fs: &FileSystem, spot: &Spot) -> Option<TreeError>
-    ensures { result ≡ first_of (missing (place_of spot.now) ∷ (not (is_link (thing fs.now (place_of spot.now))), Special) ∷ []) }
+    ensures { result ≡ first_of
+        (missing (place_of spot.now) ∷ (not (is_link (thing fs.now (place_of spot.now))), Special) ∷ []) }
 {
     if spot.there.is_none() {
         return Some(TreeError::Missing);
@@ -251,7 +259,8 @@ fn is_mount(fs: &FileSystem, spot: &Spot) -> bool
 /// The checks of `remove_folder`.
 fn check_remove_folder(fs: &FileSystem, spot: &Spot) -> Option<TreeError>
     ensures { result ≡ first_of (missing (place_of spot.now) ∷ no_folder fs.now (place_of spot.now)
-        ∷ (is_mount fs.now (place_of spot.now), Mounted) ∷ (not (is_empty fs.now (place_of spot.now)), NotEmpty)
+        ∷ (is_mount fs.now (place_of spot.now), Mounted)
+        ∷ (not (is_empty fs.now (place_of spot.now)), NotEmpty)
         ∷ denied_access 0o200 (folder_of fs.now (place_of spot.now)) ∷ []) }
 {
     if spot.there.is_none() {
@@ -336,10 +345,23 @@ pub fn refuse_sync_folder(fs: &FileSystem, names: &[Name]) -> Option<TreeError>
 /// The checks of `rename` once nothing but the folders and what stands at the new name can refuse it.
 fn check_target(fs: &FileSystem, a: &Spot, b: &Spot) -> Option<TreeError>
     ensures { result ≡ first_of
-        ((lacks 0o200 (folder_of fs.now (place_of a.now)) || lacks 0o200 (folder_of fs.now (place_of b.now)), Denied)
-        ∷ (is_folder (thing fs.now (place_of b.now)) && not (is_folder (thing fs.now (place_of a.now))), IsFolder)
-        ∷ (is_some b.now.there && (is_folder (thing fs.now (place_of a.now)) && not (is_folder (thing fs.now (place_of b.now)))), NotFolder)
-        ∷ (is_folder (thing fs.now (place_of b.now)) && not (is_empty fs.now (place_of b.now)), NotEmpty) ∷ []) }
+        ((
+          lacks 0o200 (folder_of fs.now (place_of a.now))
+              || lacks 0o200 (folder_of fs.now (place_of b.now)),
+          Denied,
+        )
+        ∷ (
+          is_folder (thing fs.now (place_of b.now))
+              && not (is_folder (thing fs.now (place_of a.now))),
+          IsFolder,
+        )
+        ∷ (
+          is_some b.now.there && (is_folder (thing fs.now (place_of a.now))
+              && not (is_folder (thing fs.now (place_of b.now)))),
+          NotFolder,
+        )
+        ∷ (is_folder (thing fs.now (place_of b.now)) && not (is_empty fs.now (place_of b.now)), NotEmpty)
+        ∷ []) }
 {
     if lacks_at(fs, 0o200, folder_of(fs, a)) || lacks_at(fs, 0o200, folder_of(fs, b)) {
         return Some(TreeError::Denied);

@@ -1,5 +1,7 @@
 -- What an answer of a tree says of what it holds, and when a device may answer a fault.
-use Rattle.std.specs.Prelude.{◌≡◌, ◌↔◌, ℕ, ℤ, ◌+◌, ◌-◌, ◌^◌, ◌≤◌, ◌≢◌, All, take, drop, min, ⊤, if◌then◌else◌, ◌==◌, List, [], ◌∷◌, length, IsSome, Option, Some, None, Result, Ok, Err, IsErrOf}
+use Rattle.std.specs.Prelude.{◌≡◌, ◌↔◌, ℕ, ℤ, ◌+◌, ◌-◌, ◌^◌, ◌≤◌, ◌≢◌, All, take, drop}
+use Rattle.std.specs.Prelude.{min, ⊤, if◌then◌else◌, ◌==◌, List, [], ◌∷◌, length}
+use Rattle.std.specs.Prelude.{IsSome, Option, Some, None, Result, Ok, Err, IsErrOf}
 use Rattle.std.specs.Ordering.{nat_cmp}
 use Rattle.std.specs.declared.cmp.Ordering.{Ordering}
 use Rattle.std.specs.declared.cmp.Ordering.TheVariants.{Less}
@@ -46,13 +48,16 @@ Reads log call (Err Fault) P = refusal_of (current log) call ≡ None
 Reads log call (Err Memory) P = ⊤
 Reads log call (Err e) P = refusal_of (current log) call ≡ Some e
 
--- A changing call answers the check that fails. Where none fails it is done, or has a fault, which leaves all as it was
--- but for the bytes of a write. It joins the log, unless it found no memory.
+-- A changing call answers the check that fails. Where none fails it is done, or has a fault, which leaves
+-- all as it was but for the bytes of a write. It joins the log, unless it found no memory.
 abbrev pub Performs : {A : Type 0} → CallLog → Call → Result A TreeError → Option CallLog → Type 0
-Performs log call (Ok x) new = (refusal_of (current log) call ≡ None) × ((time : ℤ) × (new ≡ Some (with_change log (change_of (current log) call time))))
-Performs log call (Err Fault) new = (refusal_of (current log) call ≡ None) × ((left : List ℕ) × (new ≡ Some (with_change log (torn_write (current log) call left))))
+Performs log call (Ok x) new = (refusal_of (current log) call ≡ None)
+    × ((time : ℤ) × (new ≡ Some (with_change log (change_of (current log) call time))))
+Performs log call (Err Fault) new = (refusal_of (current log) call ≡ None)
+    × ((left : List ℕ) × (new ≡ Some (with_change log (torn_write (current log) call left))))
 Performs log call (Err Memory) new = new ≡ Some log
-Performs log call (Err e) new = (refusal_of (current log) call ≡ Some e) × (new ≡ Some (with_change log Nothing))
+Performs log call (Err e) new =
+    (refusal_of (current log) call ≡ Some e) × (new ≡ Some (with_change log Nothing))
 
 -- the number of the mount whose folder this is
 abbrev pub mount_number : List Mount → ℕ → ℕ
@@ -91,7 +96,8 @@ pub record IsRead (bytes : List ℕ) (offset : ℕ) (room : List ℕ) (into : Li
   pub count_is : count ≡ min (length room) (length bytes - offset)
   pub read : take count into ≡ take count (drop offset bytes)
 
--- what a link may say: 1 to 4,095 bytes and no NUL (POSIX.1-2017, 3.381 Symbolic Link, with PATH_MAX of 4,096)
+-- what a link may say: 1 to 4,095 bytes and no NUL (POSIX.1-2017, 3.381 Symbolic
+-- Link, with PATH_MAX of 4,096)
 pub record IsLinkText (text : List ℕ) : Type 0 where
   pub some : 1 ≤ length text
   pub short : length text ≤ 4095

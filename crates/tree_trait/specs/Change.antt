@@ -1,10 +1,13 @@
 -- What the changing calls do: each is at most one change of numbered nodes.
-use Rattle.std.specs.Prelude.{pos, ℕ, ◌+◌, ◌-◌, if◌then◌else◌, ℤ, List, [], ◌∷◌, ◌++◌, length, take, drop, replicate, Option, Some, None, unwrap_or, slice_set}
+use Rattle.std.specs.Prelude.{pos, ℕ, ◌+◌, ◌-◌, if◌then◌else◌, ℤ, List, [], ◌∷◌, ◌++◌, length}
+use Rattle.std.specs.Prelude.{take, drop, replicate, Option, Some, None, unwrap_or, slice_set}
 use Rattle.mc_text.specs.declared.kind.Kind.TheVariants.{File, Folder, Link}
 use Rattle.tree_trait.specs.declared.file_system.Node.{Node}
 use Rattle.tree_trait.specs.declared.file_system.NameEdit.{NameEdit}
 use Rattle.tree_trait.specs.declared.file_system.FileSystem.{FileSystem}
-use Rattle.tree_trait.specs.Calls.{Call, Stat, ListFolder, ReadAt, ReadLink, MakeFile, WriteAt, SetMode, MakeFolder, MakeLink, Rename, RemoveFile, RemoveFolder, SyncFile, SyncFolder}
+use Rattle.tree_trait.specs.Calls.{Call, Stat, ListFolder, ReadAt, ReadLink, MakeFile}
+use Rattle.tree_trait.specs.Calls.{WriteAt, SetMode, MakeFolder, MakeLink, Rename}
+use Rattle.tree_trait.specs.Calls.{RemoveFile, RemoveFolder, SyncFile, SyncFolder}
 use Rattle.mc_text.specs.Routes.{Route, same_path}
 use Rattle.tree_trait.specs.FileSystem.{find, node}
 
@@ -24,13 +27,16 @@ abbrev pub edit : ℕ → List ℕ → Option ℕ → NameEdit
 edit folder name to = record { folder = folder; name = name; to = to }
 
 abbrev pub with_bytes : FileSystem → ℕ → List ℕ → ℤ → FileSystem
-with_bytes s i bytes mtime = record s { nodes = slice_set s.nodes i (record (node s i) { bytes = bytes; mtime = mtime }) }
+with_bytes s i bytes mtime =
+    record s { nodes = slice_set s.nodes i (record (node s i) { bytes = bytes; mtime = mtime }) }
 
 -- the file system after a change
 abbrev pub after_change : FileSystem → Change → FileSystem
 after_change s Nothing = s
-after_change s (Makes f name made) = record s { nodes = s.nodes ++ made ∷ []; names = edit f name (Some (length s.nodes)) ∷ s.names }
-after_change s (Moves f old g new i replaced) = record s { names = edit g new (Some i) ∷ edit f old None ∷ s.names }
+after_change s (Makes f name made) =
+    record s { nodes = s.nodes ++ made ∷ []; names = edit f name (Some (length s.nodes)) ∷ s.names }
+after_change s (Moves f old g new i replaced) =
+    record s { names = edit g new (Some i) ∷ edit f old None ∷ s.names }
 after_change s (Removes f name i) = record s { names = edit f name None ∷ s.names }
 after_change s (Sets i mode) = record s { nodes = slice_set s.nodes i (record (node s i) { mode = mode }) }
 after_change s (Writes i bytes mtime) = with_bytes s i bytes mtime
@@ -55,11 +61,15 @@ change_of s (Stat path) time = Nothing
 change_of s (ListFolder path) time = Nothing
 change_of s (ReadAt path offset count) time = Nothing
 change_of s (ReadLink path) time = Nothing
-change_of s (MakeFile path mode) time = of_name s path (λ f name. Makes f name (record { kind = File; bytes = []; mode = mode; mtime = time; unnamed = 0 }))
-change_of s (WriteAt path offset bytes) time = Writes (found_node s path) (overwritten_bytes (node s (found_node s path)).bytes offset bytes) time
+change_of s (MakeFile path mode) time = of_name s path (λ f name.
+    Makes f name (record { kind = File; bytes = []; mode = mode; mtime = time; unnamed = 0 }))
+change_of s (WriteAt path offset bytes) time =
+    Writes (found_node s path) (overwritten_bytes (node s (found_node s path)).bytes offset bytes) time
 change_of s (SetMode path mode) time = Sets (found_node s path) mode
-change_of s (MakeFolder path mode) time = of_name s path (λ f name. Makes f name (record { kind = Folder; bytes = []; mode = mode; mtime = pos 0; unnamed = 0 }))
-change_of s (MakeLink path text) time = of_name s path (λ f name. Makes f name (record { kind = Link; bytes = text; mode = 0; mtime = pos 0; unnamed = 0 }))
+change_of s (MakeFolder path mode) time = of_name s path (λ f name.
+    Makes f name (record { kind = Folder; bytes = []; mode = mode; mtime = pos 0; unnamed = 0 }))
+change_of s (MakeLink path text) time = of_name s path (λ f name.
+    Makes f name (record { kind = Link; bytes = text; mode = 0; mtime = pos 0; unnamed = 0 }))
 change_of s (Rename from to) time =
     if same_path from to then Nothing else
     of_name s from (λ f old. of_name s to (λ g new. Moves f old g new (found_node s from) (find s to)))
@@ -77,8 +87,8 @@ abbrev pub after_changes : FileSystem → List Change → FileSystem
 after_changes s [] = s
 after_changes s (c ∷ later) = after_changes (after_change s c) later
 
--- What a tree has been through: its opening, and what each changing call since did to it, in order. A call that was
--- refused or failed did nothing.
+-- What a tree has been through: its opening, and what each changing call since did to it, in order. A call
+-- that was refused or failed did nothing.
 pub record CallLog : Type 0 where
   pub opening : FileSystem
   pub changes : List Change

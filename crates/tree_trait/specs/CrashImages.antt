@@ -1,11 +1,13 @@
--- What a crash may leave: each change that isn't on the disk may be lost. POSIX doesn't say what becomes of a name whose
--- folder was not synced, so this rule is own (docs/DISK-MODEL.md).
-use Rattle.std.specs.Prelude.{◌≡◌, ◌⊎◌, ℕ, Bool, true, false, not, ◌&&◌, ◌||◌, ◌==◌, List, [], ◌∷◌, ◌++◌, take, length, is_none, if◌then◌else◌, Option, Some, None}
+-- What a crash may leave: each change that isn't on the disk may be lost. POSIX doesn't say what becomes of
+-- a name whose folder was not synced, so this rule is own (docs/DISK-MODEL.md).
+use Rattle.std.specs.Prelude.{◌≡◌, ◌⊎◌, ℕ, Bool, true, false, not, ◌&&◌, ◌||◌, ◌==◌, List, []}
+use Rattle.std.specs.Prelude.{◌∷◌, ◌++◌, take, length, is_none, if◌then◌else◌, Option, Some, None}
 use Rattle.std.specs.Str.{bytes_eq}
 use Rattle.mc_text.specs.Routes.{Route}
 use Rattle.tree_trait.specs.FileSystem.{lookup, find, value_at}
 use Rattle.tree_trait.specs.declared.file_system.FileSystem.{FileSystem}
-use Rattle.tree_trait.specs.Change.{Change, Nothing, Makes, Moves, Removes, Sets, Writes, Syncs, after_change, after_changes, with_bytes, CallLog}
+use Rattle.tree_trait.specs.Change.{Change, Nothing, Makes, Moves, Removes, Sets, Writes}
+use Rattle.tree_trait.specs.Change.{Syncs, after_change, after_changes, with_bytes, CallLog}
 
 -- Nothing of a node waits any more: after these changes came a sync of it, or a removal or replacement of it
 -- that waits for nothing itself.
@@ -13,15 +15,16 @@ abbrev pub is_settled : ℕ → List Change → Bool
 is_settled i [] = false
 is_settled i (Syncs j ∷ later) = (j == i) || is_settled i later
 is_settled i (Removes f name j ∷ later) = ((j == i) && is_settled f later) || is_settled i later
-is_settled i (Moves f old g new k (Some j) ∷ later) = ((j == i) && (is_settled f later && is_settled g later)) || is_settled i later
+is_settled i (Moves f old g new k (Some j) ∷ later) =
+    ((j == i) && (is_settled f later && is_settled g later)) || is_settled i later
 is_settled i (Moves f old g new k None ∷ later) = is_settled i later
 is_settled i (Nothing ∷ later) = is_settled i later
 is_settled i (Makes f name made ∷ later) = is_settled i later
 is_settled i (Sets j mode ∷ later) = is_settled i later
 is_settled i (Writes j bytes mtime ∷ later) = is_settled i later
 
--- a change still waits after these later ones: a change of names for each folder that it touches, a change of a
--- mode or of bytes for its node
+-- a change still waits after these later ones: a change of names for each folder that it touches, a change
+-- of a mode or of bytes for its node
 abbrev pub is_unsynced : Change → List Change → Bool
 is_unsynced Nothing later = false
 is_unsynced (Makes f name made) later = not (is_settled f later)
@@ -45,7 +48,8 @@ Lost s (Syncs i) new = new ≡ s
 abbrev pub MayLeave : FileSystem → List Change → FileSystem → Type 0
 MayLeave s [] image = image ≡ s
 MayLeave s (c ∷ later) image =
-    MayLeave (after_change s c) later image ⊎ ((is_unsynced c later ≡ true) × ((mid : FileSystem) × Lost s c mid × MayLeave mid later image))
+    MayLeave (after_change s c) later image
+    ⊎ ((is_unsynced c later ≡ true) × ((mid : FileSystem) × Lost s c mid × MayLeave mid later image))
 
 -- the images of a crash after the first k calls
 abbrev pub IsCrashImage : CallLog → ℕ → FileSystem → Type 0
@@ -64,14 +68,15 @@ same_name f m g n = (f == g) && bytes_eq m n
 abbrev pub says : Change → ℕ → ℕ → List ℕ → Option (Option ℕ)
 says Nothing nodes g m = None
 says (Makes f name made) nodes g m = if same_name f name g m then Some (Some nodes) else None
-says (Moves f old h new i replaced) nodes g m = if same_name h new g m then Some (Some i) else if same_name f old g m then Some None else None
+says (Moves f old h new i replaced) nodes g m =
+    if same_name h new g m then Some (Some i) else if same_name f old g m then Some None else None
 says (Removes f name i) nodes g m = if same_name f name g m then Some None else None
 says (Sets i mode) nodes g m = None
 says (Writes i bytes mtime) nodes g m = None
 says (Syncs i) nodes g m = None
 
--- what a name may lead to after a crash, first what it leads to now: also what it led to before each pending change of
--- it since the last one that is on the disk
+-- what a name may lead to after a crash, first what it leads to now: also what it led to before each
+-- pending change of it since the last one that is on the disk
 abbrev pub may_lead : ℕ → List ℕ → List (Option ℕ) → FileSystem → List Change → List (Option ℕ)
 may_lead g m had s [] = lookup s.names g m ∷ had
 may_lead g m had s (c ∷ later) =
@@ -85,13 +90,16 @@ Among (y ∷ ys) x = (x ≡ y) ⊎ Among ys x
 
 -- The law of names: in each image each name leads to one of these.
 abbrev pub NamesLaw : Type 0
-NamesLaw = (s image : FileSystem) (changes : List Change) (folder : ℕ) (name : List ℕ) → MayLeave s changes image
+NamesLaw = (s image : FileSystem) (changes : List Change) (folder : ℕ) (name : List ℕ)
+    → MayLeave s changes image
     → Among (may_lead folder name [] s changes) (lookup image.names folder name)
 
--- The images after one call more are those before it, each with the call's change or, if it is pending, without.
+-- The images after one call more are those before it, each with the call's change or,
+-- if it is pending, without.
 abbrev pub GrowsLaw : Type 0
 GrowsLaw = (s image : FileSystem) (changes : List Change) (c : Change) → MayLeave s (changes ++ c ∷ []) image
-    → (mid : FileSystem) × MayLeave s changes mid × ((image ≡ after_change mid c) ⊎ ((is_unsynced c [] ≡ true) × Lost mid c image))
+    → (mid : FileSystem) × MayLeave s changes mid
+    × ((image ≡ after_change mid c) ⊎ ((is_unsynced c [] ≡ true) × Lost mid c image))
 
 -- a change alters what this node holds
 abbrev pub alters : ℕ → Change → Bool
@@ -112,12 +120,15 @@ is_clean i (c ∷ later) = not (alters i c && is_unsynced c later) && is_clean i
 abbrev pub Steady : FileSystem → List Change → Route → Type 0
 Steady s changes [] = Unit {0}
 Steady s changes (name ∷ folder) =
-    Steady s changes folder × ((f : ℕ) → find (after_changes s changes) folder ≡ Some f → may_lead f name [] s changes ≡ lookup (after_changes s changes).names f name ∷ [])
+    Steady s changes folder × ((f : ℕ) → find (after_changes s changes) folder ≡ Some f
+    → may_lead f name [] s changes ≡ lookup (after_changes s changes).names f name ∷ [])
 
 -- A path whose names are steady shows in each image what it shows now, if no pending change alters its node.
 abbrev pub SteadyLaw : Type 0
-SteadyLaw = (s image : FileSystem) (changes : List Change) (path : Route) → MayLeave s changes image → Steady s changes path
-    → ((i : ℕ) → find (after_changes s changes) path ≡ Some i → is_clean i changes ≡ true) → value_at image path ≡ value_at (after_changes s changes) path
+SteadyLaw = (s image : FileSystem) (changes : List Change) (path : Route) → MayLeave s changes image
+    → Steady s changes path
+    → ((i : ℕ) → find (after_changes s changes) path ≡ Some i → is_clean i changes ≡ true)
+    → value_at image path ≡ value_at (after_changes s changes) path
 
 -- no change moves a node between names
 abbrev pub moves_none : List Change → Bool
@@ -128,7 +139,8 @@ moves_none (c ∷ later) = moves_none later
 -- After a sync of a folder each of its names is steady, where nothing was moved.
 abbrev pub SyncLaw : Type 0
 SyncLaw = (s : FileSystem) (changes : List Change) (folder : ℕ) (name : List ℕ) → moves_none changes ≡ true
-    → may_lead folder name [] s (changes ++ Syncs folder ∷ []) ≡ lookup (after_changes s changes).names folder name ∷ []
+    → may_lead folder name [] s (changes ++ Syncs folder ∷ [])
+    ≡ lookup (after_changes s changes).names folder name ∷ []
 
 abbrev pub is_write : Change → Bool
 is_write Nothing = false
@@ -153,9 +165,9 @@ without fill s (Syncs i) = s
 abbrev pub unless_synced : (List ℕ → List ℕ) → FileSystem → Change → List Change → FileSystem
 unless_synced fill s c later = if is_unsynced c later then without fill s c else after_change s c
 
--- The image in which those unsynced changes of names and modes stand for which there is a bit `true`: the bits are in
--- the order of these changes, and one that is missing is `false`. A file with unsynced writes holds what `fill` makes of
--- the bytes that were written.
+-- The image in which those unsynced changes of names and modes stand for which there is a bit `true`: the
+-- bits are in the order of these changes, and one that is missing is `false`. A file with unsynced writes
+-- holds what `fill` makes of the bytes that were written.
 abbrev pub image_by_bits : (List ℕ → List ℕ) → FileSystem → List Change → List Bool → FileSystem
 image_by_bits fill s [] keep = s
 image_by_bits fill s (c ∷ later) [] = image_by_bits fill (unless_synced fill s c later) later []

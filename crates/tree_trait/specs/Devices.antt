@@ -1,5 +1,7 @@
--- What the other devices do with what they hold: keys that come, bytes that a screen was given, commands that ran.
-use Rattle.std.specs.Prelude.{◌≡◌, ℕ, ◌<◌, ◌≤◌, List, [], ◌∷◌, ◌++◌, length, take, drop, Option, Some, Result, Ok, Err}
+-- What the other devices do with what they hold: keys that come, bytes that a screen was
+-- given, commands that ran.
+use Rattle.std.specs.Prelude.{◌≡◌, ℕ, ◌<◌, ◌≤◌, List, [], ◌∷◌, ◌++◌, length}
+use Rattle.std.specs.Prelude.{take, drop, Option, Some, Result, Ok, Err}
 use Rattle.tree_trait.specs.declared.devices.Command.{Command}
 use Rattle.tree_trait.specs.declared.devices.RunOutcome.{RunOutcome}
 use Rattle.tree_trait.specs.declared.devices.SourceFault.{SourceFault}
@@ -24,7 +26,8 @@ abbrev pub HasPut : {T : Type 0} → List ℕ → List ℕ → Result T SinkErro
 HasPut given bytes (Ok x) new = new ≡ Some (given ++ bytes)
 HasPut given bytes (Err error) new = (count : ℕ) × (new ≡ Some (given ++ take count bytes))
 
--- what a spawner ran after a call; one that had a fault may have run the command, one that found no memory has not
+-- what a spawner ran after a call; one that had a fault may have run the command, one
+-- that found no memory has not
 abbrev pub HasRun : List Command → Command → Result RunOutcome SpawnError → Option (List Command) → Type 0
 HasRun runs command (Ok outcome) new = new ≡ Some (runs ++ command ∷ [])
 HasRun runs command (Err Fault) new = new ≡ Some (runs ++ command ∷ [])

@@ -1,5 +1,7 @@
--- A file system of numbered nodes: where a path leads, and what stands there (POSIX.1-2017, 4.13 Pathname Resolution).
-use Rattle.std.specs.Prelude.{pos, ℕ, Bool, false, ◌&&◌, ◌==◌, if◌then◌else◌, List, [], ◌∷◌, Option, Some, None, unwrap_or, option_and_then, slice_get}
+-- A file system of numbered nodes: where a path leads, and what stands there (POSIX.1-2017,
+-- 4.13 Pathname Resolution).
+use Rattle.std.specs.Prelude.{pos, ℕ, Bool, false, ◌&&◌, ◌==◌, if◌then◌else◌, List, [], ◌∷◌}
+use Rattle.std.specs.Prelude.{Option, Some, None, unwrap_or, option_and_then, slice_get}
 use Rattle.std.specs.Option.{option_map, option_map_or}
 use Rattle.std.specs.List.{list_any}
 use Rattle.std.specs.Str.{bytes_eq}
@@ -60,7 +62,8 @@ View = Route → Spot
 
 -- the tree of a file system as it can be seen
 abbrev pub visible_tree : FileSystem → View
-visible_tree s path = record { value = value_at s path; is_mount = option_map_or (starts_mount s) (find s path) false }
+visible_tree s path =
+    record { value = value_at s path; is_mount = option_map_or (starts_mount s) (find s path) false }
 
 -- a view in which one path has another value; where mounts begin stays
 abbrev pub view_with : View → Route → Option Value → View

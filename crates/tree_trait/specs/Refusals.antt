@@ -1,6 +1,9 @@
--- Why a call is refused: the first of its checks that stands, after the walk to its path (POSIX.1-2017, 4.5 File Access
--- Permissions for one user, and the ERRORS of stat, open, mkdir, rename, unlink, rmdir and symlink; the order is own).
-use Rattle.std.specs.Prelude.{ℕ, ◌+◌, ◌-◌, Bool, true, false, not, ◌&&◌, ◌||◌, ◌==◌, nat_lt, is_some, is_none, if◌then◌else◌, List, [], ◌∷◌, length, max, Option, Some, None, unwrap_or, Result, Ok, Err, bit_and, suc, zero}
+-- Why a call is refused: the first of its checks that stands, after the walk to its path (POSIX.1-2017, 4.5
+-- File Access Permissions for one user, and the ERRORS of stat, open, mkdir, rename, unlink, rmdir and
+-- symlink; the order is own).
+use Rattle.std.specs.Prelude.{ℕ, ◌+◌, ◌-◌, Bool, true, false, not, ◌&&◌, ◌||◌, ◌==◌, nat_lt}
+use Rattle.std.specs.Prelude.{is_some, is_none, if◌then◌else◌, List, [], ◌∷◌, length, max}
+use Rattle.std.specs.Prelude.{Option, Some, None, unwrap_or, Result, Ok, Err, bit_and, suc, zero}
 use Rattle.std.specs.List.{list_any}
 use Rattle.std.specs.Option.{option_map_or}
 use Rattle.mc_text.specs.declared.kind.Kind.{Kind}
@@ -9,9 +12,13 @@ use Rattle.tree_trait.specs.declared.file_system.Node.{Node}
 use Rattle.tree_trait.specs.declared.file_system.NameEdit.{NameEdit}
 use Rattle.tree_trait.specs.declared.file_system.Mount.{Mount}
 use Rattle.tree_trait.specs.declared.file_system.FileSystem.{FileSystem}
-use Rattle.tree_trait.specs.Calls.{Call, Stat, ListFolder, ReadAt, ReadLink, MakeFile, WriteAt, SetMode, MakeFolder, MakeLink, Rename, RemoveFile, RemoveFolder, SyncFile, SyncFolder}
+use Rattle.tree_trait.specs.Calls.{Call, Stat, ListFolder, ReadAt, ReadLink, MakeFile}
+use Rattle.tree_trait.specs.Calls.{WriteAt, SetMode, MakeFolder, MakeLink, Rename}
+use Rattle.tree_trait.specs.Calls.{RemoveFile, RemoveFolder, SyncFile, SyncFolder}
 use Rattle.tree_trait.specs.declared.calls.TreeError.{TreeError}
-use Rattle.tree_trait.specs.declared.calls.TreeError.TheVariants.{Missing, NotFolder, Denied, Exists, IsFolder, NotEmpty, IntoItself, Mounted, CrossMount, NoSpace, Special}
+use Rattle.tree_trait.specs.declared.calls.TreeError.TheVariants.{Missing, NotFolder, Denied, Exists}
+use Rattle.tree_trait.specs.declared.calls.TreeError.TheVariants.{IsFolder, NotEmpty, IntoItself}
+use Rattle.tree_trait.specs.declared.calls.TreeError.TheVariants.{Mounted, CrossMount, NoSpace, Special}
 use Rattle.mc_text.specs.Routes.{Route, same_path, is_prefix}
 use Rattle.tree_trait.specs.FileSystem.{lookup, find, node, starts_mount}
 
@@ -98,7 +105,8 @@ abbrev pub has_entries : FileSystem → ℕ → Bool
 has_entries s f = list_any (λ e. (e.folder == f) && is_some (lookup s.names f e.name)) s.names
 
 abbrev pub is_empty : FileSystem → Place → Bool
-is_empty s place = not (has_entries s (unwrap_or place.there (length s.nodes))) && ((thing s place).unnamed == 0)
+is_empty s place =
+    not (has_entries s (unwrap_or place.there (length s.nodes))) && ((thing s place).unnamed == 0)
 
 -- a mount begins where this walk ended
 abbrev pub is_mount : FileSystem → Place → Bool
@@ -127,20 +135,23 @@ same_mount s from to = mount_of s (holder from) == mount_of s (holder to)
 abbrev pub holder_in : List NameEdit → List NameEdit → ℕ → Option ℕ
 holder_in names [] i = None
 holder_in names (e ∷ older) i =
-    if unwrap_or (lookup names e.folder e.name) 0 == i && is_some (lookup names e.folder e.name) then Some e.folder else holder_in names older i
+    if unwrap_or (lookup names e.folder e.name) 0 == i && is_some (lookup names e.folder e.name)
+    then Some e.folder else holder_in names older i
 
--- a node lies on the mount of this folder: going up from it, this is the first folder at which a mount begins. The number
--- bounds how far.
+-- a node lies on the mount of this folder: going up from it, this is the first folder at which a mount
+-- begins. The number bounds how far.
 abbrev pub lies_on : ℕ → FileSystem → ℕ → ℕ → Bool
 lies_on zero s mount i = false
 lies_on (suc height) s mount i =
-    if starts_mount s i then i == mount else option_map_or (lies_on height s mount) (holder_in s.names s.names i) false
+    if starts_mount s i then i == mount
+    else option_map_or (lies_on height s mount) (holder_in s.names s.names i) false
 
 -- the bytes of those of the first nodes that are files and lie on a mount
 abbrev pub used_by : ℕ → FileSystem → ℕ → ℕ
 used_by zero s mount = 0
 used_by (suc i) s mount =
-    (if is_file (node s i) && lies_on (suc (length s.nodes)) s mount i then length (node s i).bytes else 0) + used_by i s mount
+    (if is_file (node s i) && lies_on (suc (length s.nodes)) s mount i then length (node s i).bytes else 0)
+    + used_by i s mount
 
 abbrev pub capacity_of : List Mount → ℕ → ℕ
 capacity_of [] mount = 0
@@ -151,7 +162,8 @@ abbrev pub no_room : FileSystem → Route → Place → ℕ → ℕ → Bool
 no_room s path place offset count =
     let mount = mount_of s path in
     let size = length (thing s place).bytes in
-    nat_lt (capacity_of s.mounts mount) ((used_by (length s.nodes) s mount + max size (offset + count)) - size)
+    nat_lt (capacity_of s.mounts mount)
+    ((used_by (length s.nodes) s mount + max size (offset + count)) - size)
 
 -- the checks of `rename` once both walks are through
 abbrev pub rename_refusal : FileSystem → Route → Route → Place → Place → Option TreeError
@@ -187,16 +199,26 @@ denied_access bit n = (lacks bit n, Denied)
 -- the first check of a call that fails, or none
 abbrev pub refusal_of : FileSystem → Call → Option TreeError
 refusal_of s (Stat path) = after_walk s path (λ p. first_of (missing p ∷ []))
-refusal_of s (ListFolder path) = after_walk s path (λ p. first_of (missing p ∷ no_folder s p ∷ denied_access 0o400 (thing s p) ∷ []))
-refusal_of s (ReadAt path offset count) = after_walk s path (λ p. first_of (missing p ∷ a_folder s p ∷ a_special s p ∷ denied_access 0o400 (thing s p) ∷ []))
-refusal_of s (ReadLink path) = after_walk s path (λ p. first_of (missing p ∷ (not (is_link (thing s p)), Special) ∷ []))
-refusal_of s (MakeFile path mode) = after_walk s path (λ p. first_of (exists p ∷ denied_access 0o200 (folder_of s p) ∷ []))
-refusal_of s (WriteAt path offset bytes) = after_walk s path (λ p. first_of (missing p ∷ a_folder s p ∷ a_special s p ∷ denied_access 0o200 (thing s p) ∷ (no_room s path p offset (length bytes), NoSpace) ∷ []))
+refusal_of s (ListFolder path) =
+    after_walk s path (λ p. first_of (missing p ∷ no_folder s p ∷ denied_access 0o400 (thing s p) ∷ []))
+refusal_of s (ReadAt path offset count) = after_walk s path (λ p.
+    first_of (missing p ∷ a_folder s p ∷ a_special s p ∷ denied_access 0o400 (thing s p) ∷ []))
+refusal_of s (ReadLink path) =
+    after_walk s path (λ p. first_of (missing p ∷ (not (is_link (thing s p)), Special) ∷ []))
+refusal_of s (MakeFile path mode) =
+    after_walk s path (λ p. first_of (exists p ∷ denied_access 0o200 (folder_of s p) ∷ []))
+refusal_of s (WriteAt path offset bytes) = after_walk s path (λ p. first_of (missing p ∷ a_folder s p ∷
+    a_special s p ∷ denied_access 0o200 (thing s p) ∷ (no_room s path p offset (length bytes), NoSpace) ∷ []))
 refusal_of s (SetMode path mode) = after_walk s path (λ p. first_of (missing p ∷ a_special s p ∷ []))
-refusal_of s (MakeFolder path mode) = after_walk s path (λ p. first_of (exists p ∷ denied_access 0o200 (folder_of s p) ∷ []))
-refusal_of s (MakeLink path text) = after_walk s path (λ p. first_of (exists p ∷ denied_access 0o200 (folder_of s p) ∷ []))
+refusal_of s (MakeFolder path mode) =
+    after_walk s path (λ p. first_of (exists p ∷ denied_access 0o200 (folder_of s p) ∷ []))
+refusal_of s (MakeLink path text) =
+    after_walk s path (λ p. first_of (exists p ∷ denied_access 0o200 (folder_of s p) ∷ []))
 refusal_of s (Rename from to) = after_walk s from (λ a. after_walk s to (λ b. rename_refusal s from to a b))
-refusal_of s (RemoveFile path) = after_walk s path (λ p. first_of (missing p ∷ a_folder s p ∷ denied_access 0o200 (folder_of s p) ∷ []))
-refusal_of s (RemoveFolder path) = after_walk s path (λ p. first_of (missing p ∷ no_folder s p ∷ (is_mount s p, Mounted) ∷ (not (is_empty s p), NotEmpty) ∷ denied_access 0o200 (folder_of s p) ∷ []))
-refusal_of s (SyncFile path) = after_walk s path (λ p. first_of (missing p ∷ a_folder s p ∷ a_special s p ∷ []))
+refusal_of s (RemoveFile path) =
+    after_walk s path (λ p. first_of (missing p ∷ a_folder s p ∷ denied_access 0o200 (folder_of s p) ∷ []))
+refusal_of s (RemoveFolder path) = after_walk s path (λ p. first_of (missing p ∷ no_folder s p
+    ∷ (is_mount s p, Mounted) ∷ (not (is_empty s p), NotEmpty) ∷ denied_access 0o200 (folder_of s p) ∷ []))
+refusal_of s (SyncFile path) =
+    after_walk s path (λ p. first_of (missing p ∷ a_folder s p ∷ a_special s p ∷ []))
 refusal_of s (SyncFolder path) = after_walk s path (λ p. first_of (missing p ∷ no_folder s p ∷ []))

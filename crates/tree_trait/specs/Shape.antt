@@ -1,6 +1,6 @@
--- The shape of a tree: no node has two names, the root has none, only folders hold names, names lead to nodes that are
--- there, and mounts begin at folders, one of them at the root. Every file system that can be reached has it; a crash image
--- need not.
+-- The shape of a tree: no node has two names, the root has none, only folders hold names, names lead to
+-- nodes that are there, and mounts begin at folders, one of them at the root. Every file system that can be
+-- reached has it; a crash image need not.
 use Rattle.std.specs.Prelude.{◌≡◌, ℕ, ◌<◌, length, true, false, List, ◌∷◌, Some}
 use Rattle.tree_trait.specs.declared.file_system.FileSystem.{FileSystem}
 use Rattle.mc_text.specs.Routes.{Route}
@@ -8,7 +8,8 @@ use Rattle.tree_trait.specs.FileSystem.{lookup, find, node, starts_mount}
 use Rattle.tree_trait.specs.Refusals.{is_folder}
 
 pub record IsTree (s : FileSystem) : Type 0 where
-  pub one_name : (f g : ℕ) (m n : List ℕ) (i : ℕ) → lookup s.names f m ≡ Some i → lookup s.names g n ≡ Some i → (f ≡ g) × (m ≡ n)
+  pub one_name : (f g : ℕ) (m n : List ℕ) (i : ℕ) → lookup s.names f m ≡ Some i → lookup s.names g n ≡ Some i
+      → (f ≡ g) × (m ≡ n)
   pub no_name : (f : ℕ) (m : List ℕ) → lookup s.names f m ≡ Some 0 → ⊥
   pub in_folders : (f : ℕ) (m : List ℕ) (i : ℕ) → lookup s.names f m ≡ Some i → is_folder (node s f) ≡ true
   pub there : (f : ℕ) (m : List ℕ) (i : ℕ) → lookup s.names f m ≡ Some i → i < length s.nodes

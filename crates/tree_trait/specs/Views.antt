@@ -11,4 +11,5 @@ use Rattle.tree_trait.specs.Shape.{IsTree}
 -- Where a removal isn't refused, its path has nothing any more, and every other path is as it was.
 abbrev pub RemovalLaw : Type 0
 RemovalLaw = (s : FileSystem) (path : Route) (time : ℤ) → IsTree s → refusal_of s (RemoveFile path) ≡ None
-    → (p : Route) → visible_tree (after_change s (change_of s (RemoveFile path) time)) p ≡ view_with (visible_tree s) path None p
+    → (p : Route) → visible_tree (after_change s (change_of s (RemoveFile path) time)) p
+    ≡ view_with (visible_tree s) path None p

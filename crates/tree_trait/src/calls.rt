@@ -46,8 +46,8 @@ impl From<AllocError> for TreeError {
     }
 }
 
-/// What stands at a path: its kind, its bytes, its twelve mode bits, the second of its last change, and the number of
-/// its mount. What a tree doesn't keep of a thing is 0.
+/// What stands at a path: its kind, its bytes, its twelve mode bits, the second of its last change, and the
+/// number of its mount. What a tree doesn't keep of a thing is 0.
 #[derive(Clone, Copy, Debug)]
 pub struct Meta {
     pub kind: Kind,

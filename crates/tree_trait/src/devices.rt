@@ -1,4 +1,5 @@
-//! The other devices of a session: where keys come from, where the screen's bytes go, who runs commands, and the clock.
+//! The other devices of a session: where keys come from, where the screen's bytes go, who runs
+//! commands, and the clock.
 ghost use Rattle.std.specs.Prelude.{◌≡◌, ℕ, ◌≤◌, List, length, Option, None, IfOk};
 ghost use Rattle.tree_trait.specs.Answers.{HasCause, IfKnown};
 ghost use Rattle.tree_trait.specs.Devices.{HasTaken, HasPut, HasRun};
@@ -72,8 +73,8 @@ pub trait Source {
     /// How often the source has failed.
     ghost fault_count: { Self → ℕ };
 
-    /// Takes at least one byte, and as many as are there and `into` has room for. With room it takes none exactly at the
-    /// end of the stream. It takes no memory, and may wait.
+    /// Takes at least one byte, and as many as are there and `into` has room for. With room it takes none
+    /// exactly at the end of the stream. It takes no memory, and may wait.
     fn take(&mut self, into: &mut [u8]) -> Result<usize, SourceFault>
         ensures answer { IfKnown (left self.old) (λ bytes. HasTaken bytes into.new result (left self.new)) }
         ensures stays_unknown { left self.old ≡ None → left self.new ≡ None }
@@ -95,7 +96,8 @@ pub trait Sink {
 
     /// Puts bytes. A refused call has put a front of them.
     fn put(&mut self, alloc: Global, bytes: &[u8]) -> Result<(), SinkError>
-        ensures answer { IfKnown (given self.old) (λ before. HasPut before bytes.now result (given self.new)) }
+        ensures answer { IfKnown (given self.old) (λ before.
+            HasPut before bytes.now result (given self.new)) }
         ensures stays_unknown { given self.old ≡ None → given self.new ≡ None }
         ensures cause { HasCause SinkError.Fault (fault_count self.old) (fault_count self.new) result };
 

@@ -2,8 +2,8 @@
 use crate::list::Seq;
 use mc_text::{Kind, Name};
 
-/// A node. `bytes` are those of a file or the text of a link, and empty elsewhere; `unnamed` is of folders, and says how
-/// many names in it are not UTF-8.
+/// A node. `bytes` are those of a file or the text of a link, and empty elsewhere; `unnamed` is of folders,
+/// and says how many names in it are not UTF-8.
 #[derive(Drop)]
 pub struct Node {
     pub kind: Kind,
@@ -28,7 +28,8 @@ pub struct Mount {
     pub capacity: u64,
 }
 
-/// A file system. Node 0 is the root. `names` has the newest edit first: a name leads to what its newest edit says.
+/// A file system. Node 0 is the root. `names` has the newest edit first: a name leads to
+/// what its newest edit says.
 #[derive(Drop)]
 pub struct FileSystem {
     pub nodes: Seq<Node>,

@@ -1,9 +1,10 @@
-//! What holds of each crash image, and of the tree that can be seen. These functions do nothing: their contracts are laws
-//! of the definitions, on which the contracts of the calls rest.
+//! What holds of each crash image, and of the tree that can be seen. These functions do nothing: their
+//! contracts are laws of the definitions, on which the contracts of the calls rest.
 ghost use Rattle.tree_trait.specs.CrashImages.{NamesLaw, GrowsLaw, SteadyLaw, SyncLaw};
 ghost use Rattle.tree_trait.specs.Views.{RemovalLaw};
 
-/// In each image each name leads to what it leads to now, or to what it led to before an unsynced change of it.
+/// In each image each name leads to what it leads to now, or to what it led to before
+/// an unsynced change of it.
 pub fn names_after_a_crash()
     ensures { NamesLaw }
 {}

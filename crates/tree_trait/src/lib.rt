@@ -1,4 +1,5 @@
-//! A tree of files: its names, its calls, and what a crash may leave of it; and the other devices of a session.
+//! A tree of files: its names, its calls, and what a crash may leave of it; and the
+//! other devices of a session.
 #![tactic(auto)]
 
 mod calls;

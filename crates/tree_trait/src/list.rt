@@ -1,5 +1,7 @@
 //! A list that contracts see as a list, for file systems.
-ghost use Rattle.std.specs.Prelude.{◌≡◌, ◌<◌, ◌≤◌, [], ◌∷◌, ◌++◌, length, take, insert, remove, Some, slice_set, unwrap_or, ◌-◌, IfOk, OnOk, OnErr, IfErr, slice_get, alloc_error};
+ghost use Rattle.std.specs.Prelude.{◌≡◌, ◌<◌, ◌≤◌, [], ◌∷◌, ◌++◌, length, take};
+ghost use Rattle.std.specs.Prelude.{insert, remove, Some, slice_set, unwrap_or, ◌-◌};
+ghost use Rattle.std.specs.Prelude.{IfOk, OnOk, OnErr, IfErr, slice_get, alloc_error};
 ghost use Rattle.tree_trait.specs.FileSystem.{no_node};
 
 use crate::file_system::Node;
@@ -123,7 +125,8 @@ impl<T: Drop> Seq<T> {
 impl Seq<Node> {
     /// Gives a node another mode. It takes no memory.
     pub fn set_mode(&mut self, i: usize, mode: u16)
-        ensures { self.new ≡ slice_set self.old i (record (unwrap_or (slice_get self.old i) no_node) { mode = mode }) }
+        ensures { self.new ≡ slice_set self.old i
+            (record (unwrap_or (slice_get self.old i) no_node) { mode = mode }) }
     {
         if i < self.items.len() {
             self.items[i].mode = mode;
@@ -132,7 +135,8 @@ impl Seq<Node> {
 
     /// Gives a node other bytes, and the time of their writing. It takes no memory.
     pub fn set_bytes(&mut self, i: usize, bytes: Seq<u8>, mtime: i64)
-        ensures { self.new ≡ slice_set self.old i (record (unwrap_or (slice_get self.old i) no_node) { bytes = bytes; mtime = mtime }) }
+        ensures { self.new ≡ slice_set self.old i
+            (record (unwrap_or (slice_get self.old i) no_node) { bytes = bytes; mtime = mtime }) }
     {
         if i < self.items.len() {
             let node = &mut self.items[i];

@@ -5,7 +5,8 @@ use Rattle.std.specs.List.{list_any, starts_with}
 use Rattle.std.specs.Str.{bytes_eq}
 use Rattle.mc_text.specs.Routes.{Route}
 
--- a folder that is open, the names in it that are yet to be met, and whether one of those that were met was left
+-- a folder that is open, the names in it that are yet to be met, and whether one of
+-- those that were met was left
 pub record OpenFolder : Type 0 where
   pub path : Route
   pub names : List (List ℕ)
@@ -18,9 +19,11 @@ pub record FoldersAround (Folder : Type 0) : Type 0 where
 
 -- they are stored as the pair of both
 abbrev pub around_code : {Folder : Type 0} → Coded Folder → Coded (FoldersAround Folder)
-around_code code = code_by (List _ × ℕ) (coded× (coded_list code) coded_ℕ) (λ a. (a.nearest, a.spare)) (λ p. record { nearest = p.0; spare = p.1 }) (λ _. refl)
+around_code code = code_by (List _ × ℕ) (coded× (coded_list code) coded_ℕ) (λ a. (a.nearest, a.spare))
+    (λ p. record { nearest = p.0; spare = p.1 }) (λ _. refl)
 
--- the place of a walk: the folder that is worked, those around it, the nearest first, and how many levels it may go down
+-- the place of a walk: the folder that is worked, those around it, the nearest first, and how
+-- many levels it may go down
 pub record Place : Type 0 where
   pub inner : OpenFolder
   pub around : List OpenFolder
@@ -67,7 +70,11 @@ passed_place left place = record place { inner = noted_folder left (without_next
 
 -- the walk goes down into the folder that has the next name
 abbrev pub entered_place : Route → List (List ℕ) → Place → Place
-entered_place path names place = record { inner = opened_folder path names; around = without_next place.inner ∷ place.around; left = place.left - 1 }
+entered_place path names place = record {
+  inner = opened_folder path names;
+  around = without_next place.inner ∷ place.around;
+  left = place.left - 1;
+}
 
 -- the folder that is worked is done with, and the one around it is worked again
 pub record IsLeft (left : Bool) (old new : Place) : Type 0 where

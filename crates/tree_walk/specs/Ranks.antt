@@ -1,5 +1,5 @@
--- How many steps a walk has left at most. What lies below a folder is not known before it is listed; but it lies at most so
--- many levels deep, and a folder has at most as many names as a number of 64 bits counts.
+-- How many steps a walk has left at most. What lies below a folder is not known before it is listed; but it
+-- lies at most so many levels deep, and a folder has at most as many names as a number of 64 bits counts.
 use Rattle.std.specs.Prelude.{ℕ, zero, suc, ◌+◌, ◌*◌, ◌^◌, List, [], ◌∷◌, length}
 use Rattle.tree_walk.specs.Places.{OpenFolder, Place}
 

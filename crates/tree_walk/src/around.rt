@@ -6,8 +6,8 @@ use mc_text::NoMemory;
 use std::alloc::Global;
 use std::marker::Model;
 
-/// Open folders, of which contracts see the nearest first, and how many more find room. What is kept of a folder is the
-/// caller's.
+/// Open folders, of which contracts see the nearest first, and how many more find room. What is kept of
+/// a folder is the caller's.
 #[derive(Debug, Drop)]
 pub struct Around<F> {
     folders: Vec<F>,
@@ -22,7 +22,10 @@ impl<F> Model for Around<F> {
 
     ghost coded = { around_code F.code };
 
-    ghost view = { λ a. record { nearest = reverse a.folders.items; spare = vec_capacity a.folders - vec_len a.folders } };
+    ghost view = { λ a. record {
+      nearest = reverse a.folders.items;
+      spare = vec_capacity a.folders - vec_len a.folders;
+    } };
 }
 
 impl<F: Drop> Around<F> {

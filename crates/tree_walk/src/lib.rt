@@ -1,4 +1,5 @@
-//! The open folders of a walk over all that lies below a thing, and how many steps such a walk has left at most.
+//! The open folders of a walk over all that lies below a thing, and how many steps such
+//! a walk has left at most.
 #![tactic(auto)]
 
 mod around;

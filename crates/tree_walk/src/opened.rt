@@ -1,5 +1,6 @@
 //! A folder whose children are met one by one.
-ghost use Rattle.std.specs.Prelude.{◌≡◌, ◌≤◌, ◌^◌, ◌||◌, [], ◌∷◌, drop, length, false, reverse, IfSome, IfNone};
+ghost use Rattle.std.specs.Prelude.{◌≡◌, ◌≤◌, ◌^◌, ◌||◌, [], ◌∷◌, drop};
+ghost use Rattle.std.specs.Prelude.{length, false, reverse, IfSome, IfNone};
 ghost use Rattle.std.specs.List.{list_any};
 ghost use Rattle.tree_walk.specs.Places.{is_named_as_part as named_as_part, is_one_of as one_of};
 
@@ -7,15 +8,16 @@ use mc_text::{Name, Names, Path};
 use std::alloc::Global;
 use std::marker::Model;
 
-/// A folder that is open: its path, the names in it that are yet to be met, of which it keeps the last one first, and whether
-/// one of those that were met was left where it stands.
+/// A folder that is open: its path, the names in it that are yet to be met, of which it keeps the last one
+/// first, and whether one of those that were met was left where it stands.
 #[derive(Debug, Drop)]
 pub struct Opened {
     path: Path,
     names: Vec<Name>,
     spared: bool,
-    /// Whether one of the names may begin as the name of a part does. In most folders none does, and then no part's name has to be compared
-    /// with all that are yet to be met, as each part that is begun would have it. It costs one look at each name as the folder is opened.
+    /// Whether one of the names may begin as the name of a part does. In most folders none does, and then
+    /// no part's name has to be compared with all that are yet to be met, as each part that is begun would
+    /// have it. It costs one look at each name as the folder is opened.
     may_have_parts: bool,
 }
 

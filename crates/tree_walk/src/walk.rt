@@ -1,6 +1,8 @@
 //! Where a walk stands: the folder that is worked, those around it, and how many levels it may go down.
-ghost use Rattle.std.specs.Prelude.{◌≡◌, ◌+◌, ◌<◌, ◌≤◌, ◌==◌, ◌∷◌, ◌^◌, [], drop, length, suc, IfNone, IfSome, OnOk};
-ghost use Rattle.tree_walk.specs.Places.{IsLeft, entered_place, is_outermost, opened_folder, passed_place, unopened_walk};
+ghost use Rattle.std.specs.Prelude.{◌≡◌, ◌+◌, ◌<◌, ◌≤◌, ◌==◌, ◌∷◌, ◌^◌, []};
+ghost use Rattle.std.specs.Prelude.{drop, length, suc, IfNone, IfSome, OnOk};
+ghost use Rattle.tree_walk.specs.Places.{IsLeft, entered_place, is_outermost};
+ghost use Rattle.tree_walk.specs.Places.{opened_folder, passed_place, unopened_walk};
 ghost use Rattle.tree_walk.specs.Ranks.{rank, rank_around, weight};
 
 use crate::around::Around;
@@ -27,7 +29,10 @@ impl Model for Walk {
 
     ghost Value = { Walking };
 
-    ghost view = { λ w. record { place = record { inner = w.inner; around = w.around.nearest; left = w.left }; spare = w.around.spare } };
+    ghost view = { λ w. record {
+      place = record { inner = w.inner; around = w.around.nearest; left = w.left };
+      spare = w.around.spare;
+    } };
 
     ghost invariant = { λ w. w.left + length w.around.nearest ≤ 256 };
 }
@@ -47,7 +52,8 @@ impl Walk {
     /// Opens the outermost folder.
     pub fn open(&mut self, folder: Path, names: Names)
         ensures opened { self.new.place ≡ record self.old.place { inner = opened_folder folder names } }
-        ensures falls { rank self.new.place < weight (suc self.old.place.left) + rank_around (suc self.old.place.left) self.old.place.around }
+        ensures falls { rank self.new.place
+            < weight (suc self.old.place.left) + rank_around (suc self.old.place.left) self.old.place.around }
     {
         self.inner = Opened::new(folder, names);
     }
@@ -61,7 +67,8 @@ impl Walk {
 
     /// The name that is met next there.
     pub fn next_name(&self) -> Option<&Name>
-        ensures some { IfSome result (λ name. self.now.place.inner.names ≡ name.now ∷ drop 1 self.now.place.inner.names) }
+        ensures some { IfSome result (λ name.
+            self.now.place.inner.names ≡ name.now ∷ drop 1 self.now.place.inner.names) }
         ensures none { IfNone result (self.now.place.inner.names ≡ []) }
     {
         self.inner.first()
@@ -105,8 +112,8 @@ impl Walk {
         self.inner.note(left);
     }
 
-    /// Goes down into the folder that has the next name, in room that there is. The folder around waits until this one is
-    /// done with.
+    /// Goes down into the folder that has the next name, in room that there is. The folder around waits
+    /// until this one is done with.
     pub fn enter(&mut self, path: Path, names: Names)
         requires deeper { 1 ≤ self.old.place.left }
         requires room { 0 < self.old.spare }
@@ -121,7 +128,8 @@ impl Walk {
 
     /// The folder that is worked is done with: it is gone, or was left. Its path, unless it is the outermost.
     pub fn leave(&mut self, left: bool) -> Option<Path>
-        ensures some { IfSome result (λ path. (path ≡ self.old.place.inner.path) × IsLeft left self.old.place self.new.place) }
+        ensures some { IfSome result (λ path. (path ≡ self.old.place.inner.path)
+            × IsLeft left self.old.place self.new.place) }
         ensures falls { IfSome result (λ _path. rank self.new.place < rank self.old.place) }
         ensures none { IfNone result ((self.old.place.around ≡ []) × (self.new.place ≡ self.old.place)) }
     {

@@ -1,5 +1,7 @@
--- What is painted over a screen while things are sought: the line that asks, or the list of the found paths. Own.
-use Rattle.std.specs.Prelude.{ℕ, Bool, ◌==◌, if◌then◌else◌, List, [], ◌++◌, length, map, take, drop, Option, Some, None, is_some, codes}
+-- What is painted over a screen while things are sought: the line that asks, or the list
+-- of the found paths. Own.
+use Rattle.std.specs.Prelude.{ℕ, Bool, ◌==◌, if◌then◌else◌, List, [], ◌++◌, length}
+use Rattle.std.specs.Prelude.{map, take, drop, Option, Some, None, is_some, codes}
 use Rattle.std.specs.Fmt.{decimal}
 use Rattle.mc_text.specs.Routes.{path_text}
 use Rattle.key_screen.specs.Grids.{CellGrid}
@@ -22,7 +24,8 @@ skipped_words skipped = if skipped == 0 then [] else codes ", skipped " ++ decim
 
 -- what was found so far
 abbrev pub found_title : FindingsState → List ℕ
-found_title f = ((codes "Found " ++ decimal (length f.found)) ++ more_mark f.has_more) ++ skipped_words f.skipped
+found_title f =
+    ((codes "Found " ++ decimal (length f.found)) ++ more_mark f.has_more) ++ skipped_words f.skipped
 
 -- behind that, while the search goes on
 abbrev pub searching_words : Bool → List ℕ

@@ -1,4 +1,5 @@
--- The keys of the list of found paths: those of a list box (after the listboxes of mc(1)), and `s`, which stops the search. Own.
+-- The keys of the list of found paths: those of a list box (after the listboxes of mc(1)), and `s`,
+-- which stops the search. Own.
 use Rattle.std.specs.Prelude.{ℕ, ◌==◌, if◌then◌else◌}
 use Rattle.key_screen.specs.declared.keys.Key.{Key}
 use Rattle.key_screen.specs.declared.keys.Base.{Base}

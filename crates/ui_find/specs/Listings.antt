@@ -1,6 +1,7 @@
--- The found paths, as a search tells them one after the other, and the list that shows them. Own; what is found, and in which order,
--- is that of `find_file`.
-use Rattle.std.specs.Prelude.{◌≡◌, ℕ, suc, Bool, false, true, nat_lt, if◌then◌else◌, List, [], ◌∷◌, ◌++◌, length, Option, Some, None, slice_get}
+-- The found paths, as a search tells them one after the other, and the list that shows them. Own; what is
+-- found, and in which order, is that of `find_file`.
+use Rattle.std.specs.Prelude.{◌≡◌, ℕ, suc, Bool, false, true, nat_lt, if◌then◌else◌}
+use Rattle.std.specs.Prelude.{List, [], ◌∷◌, ◌++◌, length, Option, Some, None, slice_get}
 use Rattle.mc_text.specs.Routes.{Route}
 use Rattle.tree_trait.specs.declared.file_system.FileSystem.{FileSystem}
 use Rattle.tree_trait.specs.Change.{CallLog, current}
@@ -23,9 +24,11 @@ use Rattle.ui_find.specs.Tellings.{FindingsState}
 abbrev pub no_findings : FindingsState
 no_findings = record { found = []; skipped = 0; has_more = false }
 
--- a path is found: it is listed, up to 10,000 of them; of one behind these it is only known that there are more
+-- a path is found: it is listed, up to 10,000 of them; of one behind these it is only
+-- known that there are more
 abbrev pub with_path : Route → FindingsState → FindingsState
-with_path path f = if nat_lt (length f.found) 10000 then record f { found = f.found ++ path ∷ [] } else record f { has_more = true }
+with_path path f = if nat_lt (length f.found) 10000 then record f { found = f.found ++ path ∷ [] }
+    else record f { has_more = true }
 
 -- what a search tells joins what it has told
 abbrev pub told_to : Found → FindingsState → FindingsState
@@ -50,11 +53,13 @@ course_after (Some (Skipped path why)) f = by_more f.has_more
 -- what a search comes to that is yet to tell this
 unfoldable pub told_all : List Found → FindingsState → FindingsState
 told_all [] f = f
-told_all (found ∷ rest) f = if (told_to found f).has_more then told_to found f else told_all rest (told_to found f)
+told_all (found ∷ rest) f =
+    if (told_to found f).has_more then told_to found f else told_all rest (told_to found f)
 
 -- THE LIST
 
--- what is still searched, what was told so far, the position of the current path, and that of the first one shown
+-- what is still searched, what was told so far, the position of the current path, and
+-- that of the first one shown
 pub record ListingState : Type 0 where
   pub search : Option Finder
   pub findings : FindingsState
@@ -76,9 +81,10 @@ comes_to_by s (Some finder) f = told_all (yet_to_find s finder) f
 abbrev pub comes_to : FileSystem → ListingState → FindingsState
 comes_to s l = comes_to_by s l.search l.findings
 
--- A search begins that goes into folders. The list comes to all that is found from the start on, up to where there are more paths than
--- are listed, on any file system that stays as it is.
-pub record IsBegun (start : Route) (name : PatternText) (content : List ℕ) (hidden : Bool) (listing : ListingState) : Type 0 where
+-- A search begins that goes into folders. The list comes to all that is found from the start on, up to
+-- where there are more paths than are listed, on any file system that stays as it is.
+pub record IsBegun (start : Route) (name : PatternText) (content : List ℕ) (hidden : Bool)
+    (listing : ListingState) : Type 0 where
   pub finder : Finder
   pub search : finder.search ≡ record { name = name; content = content; recursive = true; hidden = hidden }
   pub list : (s : FileSystem) → comes_to s listing ≡ told_all (found_list s finder.search start) no_findings
@@ -90,14 +96,17 @@ left_by GoesOn finder = Some finder
 left_by Ends finder = None
 
 -- one step of a search that tells this, if it tells anything
-pub record IsTold (contents : Option CallLog) (faults faults_after : ℕ) (finder left : Finder) (before after : FindingsState) (course : Course) : Type 0 where
+pub record IsTold (contents : Option CallLog) (faults faults_after : ℕ) (finder left : Finder)
+    (before after : FindingsState) (course : Course) : Type 0 where
   pub told : Option Found
   pub step : IsStep contents faults faults_after finder told left
   pub findings : after ≡ after_telling told before
   pub course_is : course ≡ course_after told after
 
--- A step of the list: one of its search, if one goes on. The current path stays, and so does the first one shown.
-pub record IsStepped (contents : Option CallLog) (faults faults_after : ℕ) (finder : Finder) (before after : ListingState) : Type 0 where
+-- A step of the list: one of its search, if one goes on. The current path stays, and so
+-- does the first one shown.
+pub record IsStepped (contents : Option CallLog) (faults faults_after : ℕ) (finder : Finder)
+    (before after : ListingState) : Type 0 where
   pub left : Finder
   pub course : Course
   pub told : IsTold contents faults faults_after finder left before.findings after.findings course
@@ -105,12 +114,14 @@ pub record IsStepped (contents : Option CallLog) (faults faults_after : ℕ) (fi
 
 abbrev pub StepLeads : Option Finder → Option CallLog → ℕ → ℕ → ListingState → ListingState → Type 0
 StepLeads None contents faults faults_after before after = after ≡ before
-StepLeads (Some finder) contents faults faults_after before after = IsStepped contents faults faults_after finder before after
+StepLeads (Some finder) contents faults faults_after before after =
+    IsStepped contents faults faults_after finder before after
 
 -- unless the device failed, the list comes to what it would have come to
 abbrev pub IsKept : Option CallLog → ℕ → ℕ → ListingState → ListingState → Type 0
 IsKept contents faults faults_after before after =
-    IfKnown contents (λ log. (HasRisen faults faults_after → ⊥) → comes_to (current log) after ≡ comes_to (current log) before)
+    IfKnown contents (λ log. (HasRisen faults faults_after → ⊥)
+    → comes_to (current log) after ≡ comes_to (current log) before)
 
 -- how many steps are left at most until nothing is sought any more
 abbrev pub steps_by : Option Finder → ℕ

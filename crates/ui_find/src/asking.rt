@@ -2,7 +2,8 @@
 ghost use Rattle.std.specs.Prelude.{◌≡◌, IfOk, OnOk, OnErr};
 ghost use Rattle.ui_words.specs.BoxKeys.{line_reply as line_reply_of};
 ghost use Rattle.mc_dialogs.specs.InputKeys.{input_after, input_shut};
-ghost use Rattle.ui_find.specs.Questions.{StaysWhereTaken, content_line as content_line_of, names_line as names_line_of, start_line as start_line_of};
+ghost use Rattle.ui_find.specs.Questions.{StaysWhereTaken, content_line as content_line_of};
+ghost use Rattle.ui_find.specs.Questions.{names_line as names_line_of, start_line as start_line_of};
 
 use key_screen::Key;
 use mc_dialogs::InputLine;

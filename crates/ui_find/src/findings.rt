@@ -22,7 +22,8 @@ pub enum Course {
     Ends,
 }
 
-/// What a search has told so far: the paths that are listed, how many were skipped, and whether there are more.
+/// What a search has told so far: the paths that are listed, how many were skipped,
+/// and whether there are more.
 #[derive(Debug, Drop)]
 pub struct Findings {
     found: Vec<Path>,
@@ -60,7 +61,8 @@ impl Findings {
         tree: &mut T,
         finder: &mut Finder,
     ) -> Result<Course, NoMemory>
-        ensures told { IfOk result (IsTold (T.contents tree.old) (T.fault_count tree.old) (T.fault_count tree.new)
+        ensures told { IfOk result
+            (IsTold (T.contents tree.old) (T.fault_count tree.old) (T.fault_count tree.new)
             finder.old finder.new self.old self.new) }
         ensures lost { OnErr result (self.new ≡ self.old) }
         ensures waits { OnErr result (IfKnown (T.contents tree.old) (λ log.

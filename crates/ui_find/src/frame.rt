@@ -15,8 +15,8 @@ use std::alloc::Global;
 use std::convert::AsStr;
 
 impl FindMode {
-    /// Paints it over a screen: the line that asks, or the list. It reads no tree, and takes the time of what is shown. Where memory
-    /// is wanting, a part of it may stand.
+    /// Paints it over a screen: the line that asks, or the list. It reads no tree, and takes the time of
+    /// what is shown. Where memory is wanting, a part of it may stand.
     pub fn paint(&self, alloc: Global, grid: &mut Grid) -> Result<(), NoMemory>
         ensures { OnOk result (grid.new ≡ with_find self.now grid.old) }
     {

@@ -1,4 +1,5 @@
-//! What stands on the screen while things are sought: the lines that ask for what, and then the list of the found paths.
+//! What stands on the screen while things are sought: the lines that ask for what, and then the
+//! list of the found paths.
 #![tactic(auto)]
 
 mod act;

@@ -1,7 +1,8 @@
 //! The list of the found paths, and the search that goes on beside it.
 ghost use Rattle.std.specs.Prelude.{◌≡◌, ◌≤◌, ◌<◌, ◌^◌, is_some, true, None, Some, OnOk, OnErr};
 ghost use Rattle.std.specs.Option.{option_map};
-ghost use Rattle.ui_find.specs.Listings.{IsKept, StepLeads, begun_search, chosen_path, moved_by, no_listing, steps_to_end, stopped_search};
+ghost use Rattle.ui_find.specs.Listings.{IsKept, StepLeads, begun_search, chosen_path};
+ghost use Rattle.ui_find.specs.Listings.{moved_by, no_listing, steps_to_end, stopped_search};
 
 use crate::findings::{Course, Findings};
 use find_file::Finder;
@@ -27,7 +28,12 @@ impl Model for Listing {
 
     ghost Value = { ListingState };
 
-    ghost view = { λ l. record { search = l.search; findings = l.findings; current = l.current; first = l.first } };
+    ghost view = { λ l. record {
+      search = l.search;
+      findings = l.findings;
+      current = l.current;
+      first = l.first;
+    } };
 
     ghost invariant = { λ l. (l.current ≤ 10000) × (l.first ≤ 10001) };
 }
@@ -57,13 +63,17 @@ impl Listing {
         }
     }
 
-    /// Makes one step of the search, if one goes on. Where memory is wanting nothing is lost: the next step goes on.
+    /// Makes one step of the search, if one goes on. Where memory is wanting nothing is
+    /// lost: the next step goes on.
     pub fn step<T: ReadTree>(&mut self, alloc: Global, tree: &mut T) -> Result<(), NoMemory>
-        ensures leads { OnOk result (StepLeads self.old.search (T.contents tree.old) (T.fault_count tree.old) (T.fault_count tree.new)
+        ensures leads { OnOk result
+            (StepLeads self.old.search (T.contents tree.old) (T.fault_count tree.old) (T.fault_count tree.new)
             self.old self.new) }
         ensures lost { OnErr result (self.new ≡ record self.old { search = self.new.search }) }
-        ensures kept { IsKept (T.contents tree.old) (T.fault_count tree.old) (T.fault_count tree.new) self.old self.new }
-        ensures falls { OnOk result (is_some self.old.search ≡ true → steps_to_end self.new < steps_to_end self.old) }
+        ensures kept { IsKept (T.contents tree.old) (T.fault_count tree.old) (T.fault_count tree.new)
+            self.old self.new }
+        ensures falls { OnOk result (is_some self.old.search ≡ true
+            → steps_to_end self.new < steps_to_end self.old) }
         ensures still { self.old.search ≡ None → (tree.new ≡ tree.old) × (self.new ≡ self.old) }
         ensures same { T.contents tree.new ≡ T.contents tree.old }
         ensures later { T.fault_count tree.old ≤ T.fault_count tree.new }
@@ -82,12 +92,14 @@ impl Listing {
         finder: Finder,
     ) -> Result<(), NoMemory>
         requires { self.old.search ≡ None }
-        ensures leads { OnOk result (StepLeads (Some finder) (T.contents tree.old) (T.fault_count tree.old) (T.fault_count tree.new)
+        ensures leads { OnOk result
+            (StepLeads (Some finder) (T.contents tree.old) (T.fault_count tree.old) (T.fault_count tree.new)
             (record self.old { search = Some finder }) self.new) }
         ensures lost { OnErr result (self.new ≡ record self.old { search = self.new.search }) }
         ensures kept { IsKept (T.contents tree.old) (T.fault_count tree.old) (T.fault_count tree.new)
             (record self.old { search = Some finder }) self.new }
-        ensures falls { OnOk result (steps_to_end self.new < steps_to_end (record self.old { search = Some finder })) }
+        ensures falls { OnOk result
+            (steps_to_end self.new < steps_to_end (record self.old { search = Some finder })) }
         ensures same { T.contents tree.new ≡ T.contents tree.old }
         ensures later { T.fault_count tree.old ≤ T.fault_count tree.new }
     {

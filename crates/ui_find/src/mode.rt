@@ -17,7 +17,8 @@ use std::marker::Model;
 use tagging::PatternKind;
 use tree_trait::ReadTree;
 
-/// Things are sought: a line asks for what, and then the found paths are listed while the search goes on step by step.
+/// Things are sought: a line asks for what, and then the found paths are listed while the
+/// search goes on step by step.
 #[derive(Debug, Drop)]
 pub struct FindMode {
     lines: u16,
@@ -34,12 +35,20 @@ impl Model for FindMode {
 
     ghost Value = { FindScreen };
 
-    ghost view = { λ m. record { lines = m.lines; folder = m.folder; home = m.home; kind = m.kind; hidden = m.hidden; asking = m.asking; listing = m.listing } };
+    ghost view = { λ m. record {
+      lines = m.lines;
+      folder = m.folder;
+      home = m.home;
+      kind = m.kind;
+      hidden = m.hidden;
+      asking = m.asking;
+      listing = m.listing;
+    } };
 }
 
 impl FindMode {
-    /// Asks where to start. A start that is typed leads from a folder on, and its tilde from HOME; patterns are of a kind; names that begin
-    /// with a dot are met only with `hidden`.
+    /// Asks where to start. A start that is typed leads from a folder on, and its tilde from HOME; patterns
+    /// are of a kind; names that begin with a dot are met only with `hidden`.
     pub fn open(
         alloc: Global,
         lines: u16,
@@ -65,7 +74,8 @@ impl FindMode {
         })
     }
 
-    /// Works a key. Only one that answers where to start looks at the tree. Where memory is wanting all stays as it was.
+    /// Works a key. Only one that answers where to start looks at the tree. Where memory is
+    /// wanting all stays as it was.
     pub fn key<T: ReadTree>(
         &mut self,
         alloc: Global,
@@ -75,7 +85,8 @@ impl FindMode {
         ensures leads { IfOk result (λ act. KeyLeads (T.contents tree.old) key act self.old self.new) }
         ensures still { looks key self.old ≡ false → tree.new ≡ tree.old }
         ensures lost { OnErr result (self.new ≡ self.old) }
-        ensures reads { ReadsTree result (T.contents tree.old) (T.contents tree.new) (T.fault_count tree.old) (T.fault_count tree.new) }
+        ensures reads { ReadsTree result (T.contents tree.old) (T.contents tree.new) (T.fault_count tree.old)
+            (T.fault_count tree.new) }
     {
         match self.asking.take() {
             None => self.key_in_list(alloc, key),
@@ -83,16 +94,21 @@ impl FindMode {
         }
     }
 
-    /// Makes one step of the search, if one goes on: at most a look and the read of a file, or a listing. Where memory is wanting
-    /// nothing is lost: the next step goes on.
+    /// Makes one step of the search, if one goes on: at most a look and the read of a file, or a listing.
+    /// Where memory is wanting nothing is lost: the next step goes on.
     pub fn step<T: ReadTree>(&mut self, alloc: Global, tree: &mut T) -> Result<(), NoMemory>
-        ensures leads { OnOk result (StepLeads self.old.listing.search (T.contents tree.old) (T.fault_count tree.old)
+        ensures leads { OnOk result
+            (StepLeads self.old.listing.search (T.contents tree.old) (T.fault_count tree.old)
             (T.fault_count tree.new) self.old.listing self.new.listing) }
         ensures rest { self.new ≡ with_listing self.new.listing self.old }
-        ensures lost { OnErr result (self.new.listing ≡ record self.old.listing { search = self.new.listing.search }) }
-        ensures kept { IsKept (T.contents tree.old) (T.fault_count tree.old) (T.fault_count tree.new) self.old.listing self.new.listing }
-        ensures falls { OnOk result (is_some self.old.listing.search ≡ true → steps_to_end self.new.listing < steps_to_end self.old.listing) }
-        ensures still { is_some self.old.listing.search ≡ false → (tree.new ≡ tree.old) × (self.new ≡ self.old) }
+        ensures lost { OnErr result
+            (self.new.listing ≡ record self.old.listing { search = self.new.listing.search }) }
+        ensures kept { IsKept (T.contents tree.old) (T.fault_count tree.old) (T.fault_count tree.new)
+            self.old.listing self.new.listing }
+        ensures falls { OnOk result (is_some self.old.listing.search ≡ true
+            → steps_to_end self.new.listing < steps_to_end self.old.listing) }
+        ensures still { is_some self.old.listing.search ≡ false
+            → (tree.new ≡ tree.old) × (self.new ≡ self.old) }
         ensures same { T.contents tree.new ≡ T.contents tree.old }
         ensures later { T.fault_count tree.old ≤ T.fault_count tree.new }
     {

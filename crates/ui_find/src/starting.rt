@@ -38,7 +38,8 @@ pub fn start_at<T: ReadTree>(
     }
 }
 
-/// A search below a start, into its folders, for things of such names that hold a text, where there is one. It takes no memory.
+/// A search below a start, into its folders, for things of such names that hold a text, where there is
+/// one. It takes no memory.
 pub fn search_below(
     alloc: Global,
     start: Path,

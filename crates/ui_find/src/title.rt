@@ -1,7 +1,8 @@
 //! The title of the list.
 ghost use Rattle.std.specs.Prelude.{◌≡◌, ◌++◌, string_bytes, IfOk, OnOk};
 ghost use Rattle.std.specs.Fmt.{decimal};
-ghost use Rattle.ui_find.specs.FindFrames.{found_title as title_of, list_title as title_of_list, more_mark, searching_words, skipped_words};
+ghost use Rattle.ui_find.specs.FindFrames.{found_title as title_of, list_title as title_of_list};
+ghost use Rattle.ui_find.specs.FindFrames.{more_mark, searching_words, skipped_words};
 
 use crate::findings::Findings;
 use crate::listing::Listing;
@@ -17,7 +18,8 @@ pub fn list_title(alloc: Global, listing: &Listing) -> Result<Text, NoMemory>
     Ok(Text(title))
 }
 
-/// How many paths were found, with a `+` where there are more than are listed, and how many were skipped, where any were.
+/// How many paths were found, with a `+` where there are more than are listed, and how many were
+/// skipped, where any were.
 fn found_title(alloc: Global, findings: &Findings) -> Result<Text, NoMemory>
     ensures { IfOk result (λ title. title ≡ title_of findings.now) }
 {

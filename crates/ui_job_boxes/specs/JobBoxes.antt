@@ -10,8 +10,9 @@ use Rattle.ui_job_boxes.specs.declared.job_box.JobBox.{JobBox}
 use Rattle.ui_job_boxes.specs.declared.job_box.JobBox.TheVariants as box
 use Rattle.ui_job_boxes.specs.declared.job_box.Surroundings.{Surroundings}
 
--- A box that asks whether to delete things, asks for the source mask of a copy or a move or, with that mask, for its destination, for a new
--- folder, for what a new link is to say or, with that, for its name, or for the mode of things, or tells what a job waits with.
+-- A box that asks whether to delete things, asks for the source mask of a copy or a move or, with that
+-- mask, for its destination, for a new folder, for what a new link is to say or, with that, for its name,
+-- or for the mode of things, or tells what a job waits with.
 pub data JobBoxState : Type 0 where
   DeleteBox : (paths : List Route) → JobBoxState
   MaskBox : (how : Carry) → (paths : List Route) → (typed : InputState) → JobBoxState
@@ -33,7 +34,8 @@ seen_job_box (box.LinkName text typed) = LinkNameBox text typed
 seen_job_box (box.Mode chosen asked) = NewModeBox chosen.paths asked
 seen_job_box (box.Answer waits) = AnswerBox waits
 
--- what a box goes by besides the tree: the live jobs, the folders of the current panel and of the other one, and HOME
+-- what a box goes by besides the tree: the live jobs, the folders of the current panel and
+-- of the other one, and HOME
 pub record Around : Type 0 where
   pub rows : List JobRow
   pub current : Route

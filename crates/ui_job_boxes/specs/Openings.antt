@@ -14,7 +14,8 @@ box_of opens.Delete paths mode = DeleteBox paths
 box_of (opens.SourceMask how) paths mode = MaskBox how paths mask_line
 box_of opens.Mode paths mode = NewModeBox paths (mode_box mode)
 
--- what a link says at first that is asked for in a panel: the path of the thing under the cursor, or of the folder, where that is on `..`
+-- what a link says at first that is asked for in a panel: the path of the thing under the cursor, or of the
+-- folder, where that is on `..`
 abbrev pub text_within : Option (List ℕ) → Route → List ℕ
 text_within (Some name) folder = thing_text folder name
 text_within None folder = path_text folder

@@ -6,7 +6,8 @@ use Rattle.mc_dialogs.specs.InputField.{with_input}
 use Rattle.mc_dialogs.specs.ModeKeys.{mode_lines}
 use Rattle.mc_dialogs.specs.QuestionKeys.{plain_lines}
 use Rattle.ui_words.specs.BoxLines.{delete_lines, waits_lines}
-use Rattle.ui_job_boxes.specs.JobBoxes.{JobBoxState, DeleteBox, MaskBox, TargetBox, FolderBox, LinkTextBox, LinkNameBox, NewModeBox, AnswerBox}
+use Rattle.ui_job_boxes.specs.JobBoxes.{JobBoxState, DeleteBox, MaskBox, TargetBox, FolderBox}
+use Rattle.ui_job_boxes.specs.JobBoxes.{LinkTextBox, LinkNameBox, NewModeBox, AnswerBox}
 
 abbrev pub with_job_box : JobBoxState → CellGrid → CellGrid
 with_job_box (DeleteBox paths) grid = with_box grid (plain_lines (delete_lines (length paths)))

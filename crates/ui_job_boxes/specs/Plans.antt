@@ -13,10 +13,12 @@ use Rattle.ui_job_boxes.specs.JobBoxes.{Around}
 
 -- what planning it comes to where a text leads from a folder
 abbrev pub PlansAt : PlanOf → Option CallLog → Route → List ℕ → JobPlan → Type 0
-PlansAt (plan_of.Carry source) contents from text plan = CarryLeads source.now.carry contents source.now.chosen.paths source.now.mask from text plan
+PlansAt (plan_of.Carry source) contents from text plan =
+    CarryLeads source.now.carry contents source.now.chosen.paths source.now.mask from text plan
 PlansAt plan_of.Folder contents from text plan = FolderLeads contents from text plan
 PlansAt (plan_of.Link said) contents from text plan = LinkLeads contents from text said.now plan
 
 -- from the current panel's folder, with HOME in place of a tilde
 abbrev pub PlansBy : PlanOf → Option CallLog → Around → List ℕ → JobPlan → Type 0
-PlansBy wanted contents around text plan = PlansAt wanted contents around.current (with_home around.home text) plan
+PlansBy wanted contents around text plan =
+    PlansAt wanted contents around.current (with_home around.home text) plan

@@ -1,5 +1,7 @@
--- What a key comes to in each box of a job (mc(1), "Copy, Rename", "Miscellaneous Keys"; F5 to F8 of its bottom line).
-use Rattle.std.specs.Prelude.{◌≡◌, ◌⊎◌, ⊤, ℕ, Bool, true, false, MatchBool, if◌then◌else◌, List, [], ◌∷◌, Option}
+-- What a key comes to in each box of a job (mc(1), "Copy, Rename", "Miscellaneous Keys"; F5
+-- to F8 of its bottom line).
+use Rattle.std.specs.Prelude.{◌≡◌, ◌⊎◌, ⊤, ℕ, Bool, true, false, MatchBool}
+use Rattle.std.specs.Prelude.{if◌then◌else◌, List, [], ◌∷◌, Option}
 use Rattle.mc_text.specs.Routes.{Route}
 use Rattle.resolving.specs.Homes.{with_home}
 use Rattle.tree_trait.specs.Change.{CallLog}
@@ -30,8 +32,10 @@ use Rattle.ui_plans.specs.Carrying.{CarryLeads}
 use Rattle.ui_plans.specs.Folders.{FolderLeads}
 use Rattle.ui_plans.specs.Links.{LinkLeads}
 use Rattle.ui_job_boxes.specs.declared.job_box.JobReply.{JobReply}
-use Rattle.ui_job_boxes.specs.declared.job_box.JobReply.TheVariants.{Stays, Shuts, Opens, Begins, Answers, Refuses}
-use Rattle.ui_job_boxes.specs.JobBoxes.{Around, JobBoxState, DeleteBox, MaskBox, TargetBox, FolderBox, LinkTextBox, LinkNameBox, NewModeBox, AnswerBox, seen_job_box}
+use Rattle.ui_job_boxes.specs.declared.job_box.JobReply.TheVariants.{Stays, Shuts, Opens}
+use Rattle.ui_job_boxes.specs.declared.job_box.JobReply.TheVariants.{Begins, Answers, Refuses}
+use Rattle.ui_job_boxes.specs.JobBoxes.{Around, JobBoxState, DeleteBox, MaskBox, TargetBox, FolderBox}
+use Rattle.ui_job_boxes.specs.JobBoxes.{LinkTextBox, LinkNameBox, NewModeBox, AnswerBox, seen_job_box}
 use Rattle.ui_job_boxes.specs.LiveJobs.{can_answer, none_live}
 
 -- JOBS THAT ARE CONFIRMED
@@ -51,7 +55,8 @@ IsPlanned Leads (Answers answer) = ⊥
 
 -- a job is planned while none is live; beside a live one it is refused
 abbrev pub PlansAlone : List JobRow → (JobPlan → Type 0) → JobReply → Type 0
-PlansAlone rows Leads reply = MatchBool (none_live rows) (IsPlanned Leads reply) (reply ≡ Refuses (Begin Full))
+PlansAlone rows Leads reply =
+    MatchBool (none_live rows) (IsPlanned Leads reply) (reply ≡ Refuses (Begin Full))
 
 -- WHAT EACH BOX ANSWERS
 
@@ -70,11 +75,13 @@ delete_answer rows paths delete.Stays = Stays
 delete_answer rows paths delete.Shuts = Shuts
 delete_answer rows paths delete.Deletes = begun_alone rows (delete_plan paths)
 
--- the source mask: with any mask that is typed the destination is asked for, at first the folder of the other panel
+-- the source mask: with any mask that is typed the destination is asked for, at first the
+-- folder of the other panel
 abbrev pub MaskLeads : LineReply → Carry → List Route → Route → JobReply → Type 0
 MaskLeads line.Stays how paths other reply = reply ≡ Stays
 MaskLeads line.Shuts how paths other reply = reply ≡ Shuts
-MaskLeads (line.Takes text) how paths other reply = OpensBox (TargetBox how paths text (target_line how other)) reply
+MaskLeads (line.Takes text) how paths other reply =
+    OpensBox (TargetBox how paths text (target_line how other)) reply
 
 -- what a new link is to say: with any text that is typed its name is asked for
 abbrev pub LinkTextLeads : LineReply → JobReply → Type 0
@@ -102,23 +109,30 @@ given_answer rows (answer.Gives given) = if can_answer rows given then Answers g
 
 -- KEYS
 
--- What a key comes to in a box. A typed path leads from the folder of the current panel, with HOME in place of a tilde: the destination
--- of those things that match the mask, the new folder's path, and that of the link with its text.
+-- What a key comes to in a box. A typed path leads from the folder of the current panel, with HOME in
+-- place of a tilde: the destination of those things that match the mask, the new folder's path, and that
+-- of the link with its text.
 abbrev pub BoxLeads : JobBoxState → Option CallLog → Around → Key → JobReply → Type 0
-BoxLeads (DeleteBox paths) contents around key reply = reply ≡ delete_answer around.rows paths (delete_reply_to key)
-BoxLeads (MaskBox how paths typed) contents around key reply = MaskLeads (line_reply (input_shut typed key)) how paths around.other reply
+BoxLeads (DeleteBox paths) contents around key reply =
+    reply ≡ delete_answer around.rows paths (delete_reply_to key)
+BoxLeads (MaskBox how paths typed) contents around key reply =
+    MaskLeads (line_reply (input_shut typed key)) how paths around.other reply
 BoxLeads (TargetBox how paths mask typed) contents around key reply =
     PathLeads (line_reply (input_shut typed key)) around.rows
-    (λ text planned. CarryLeads how contents paths mask around.current (with_home around.home text) planned) reply
+    (λ text planned. CarryLeads how contents paths mask around.current (with_home around.home text) planned)
+    reply
 BoxLeads (FolderBox typed) contents around key reply =
     PathLeads (line_reply (input_shut typed key)) around.rows
     (λ text planned. FolderLeads contents around.current (with_home around.home text) planned) reply
-BoxLeads (LinkTextBox typed) contents around key reply = LinkTextLeads (line_reply (input_shut typed key)) reply
+BoxLeads (LinkTextBox typed) contents around key reply =
+    LinkTextLeads (line_reply (input_shut typed key)) reply
 BoxLeads (LinkNameBox text typed) contents around key reply =
     PathLeads (line_reply (input_shut typed key)) around.rows
     (λ name planned. LinkLeads contents around.current (with_home around.home name) text planned) reply
-BoxLeads (NewModeBox paths typed) contents around key reply = reply ≡ mode_answer around.rows paths (mode_reply (mode_shut typed key))
-BoxLeads (AnswerBox waits) contents around key reply = reply ≡ given_answer around.rows (answer_reply_to waits key)
+BoxLeads (NewModeBox paths typed) contents around key reply =
+    reply ≡ mode_answer around.rows paths (mode_reply (mode_shut typed key))
+BoxLeads (AnswerBox waits) contents around key reply =
+    reply ≡ given_answer around.rows (answer_reply_to waits key)
 
 -- a box after a key
 abbrev pub box_after : JobBoxState → Key → JobBoxState

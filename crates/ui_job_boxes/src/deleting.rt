@@ -2,7 +2,8 @@
 ghost use Rattle.std.specs.Prelude.{◌≡◌, IfOk};
 ghost use Rattle.ui_words.specs.BoxKeys.{delete_reply_to as deletes_by};
 ghost use Rattle.ui_plans.specs.Plans.{delete_plan};
-ghost use Rattle.ui_job_boxes.specs.Replies.{IsAllowed, IsFullAtMost, begun_alone, delete_answer, reply_refusals};
+ghost use Rattle.ui_job_boxes.specs.Replies.{IsAllowed, IsFullAtMost, begun_alone};
+ghost use Rattle.ui_job_boxes.specs.Replies.{delete_answer, reply_refusals};
 
 use crate::job_box::JobReply;
 use crate::live_jobs::{full, none_live};

@@ -34,7 +34,8 @@ pub enum JobBox {
     Answer(Waits),
 }
 
-/// What a box goes by besides the tree: the live jobs, the folders of the current panel and of the other one, and HOME.
+/// What a box goes by besides the tree: the live jobs, the folders of the current panel and of
+/// the other one, and HOME.
 #[derive(Drop)]
 pub struct Surroundings<'a> {
     pub rows: &'a JobRows,

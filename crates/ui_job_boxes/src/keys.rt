@@ -17,8 +17,8 @@ use std::alloc::Global;
 use tree_trait::ReadTree;
 
 impl JobBox {
-    /// What it comes to by a key. Unless it stays it is as it was, as it is where memory is wanting. It takes the time of its paths and
-    /// texts; a typed path is looked at name by name.
+    /// What it comes to by a key. Unless it stays it is as it was, as it is where memory is wanting. It
+    /// takes the time of its paths and texts; a typed path is looked at name by name.
     pub fn key<T: ReadTree>(
         &mut self,
         alloc: Global,
@@ -26,7 +26,8 @@ impl JobBox {
         around: &Surroundings<'_>,
         key: Key,
     ) -> Result<JobReply, NoMemory>
-        ensures leads { IfOk result (BoxLeads (seen_job_box self.old) (T.contents tree.old) (seen_around around.now) key) }
+        ensures leads { IfOk result
+            (BoxLeads (seen_job_box self.old) (T.contents tree.old) (seen_around around.now) key) }
         ensures state { OnOk result (seen_job_box self.new ≡ box_after (seen_job_box self.old) key) }
         ensures kept { IfOk result (λ reply. stays reply ≡ false → self.new ≡ self.old) }
         ensures lost { OnErr result (self.new ≡ self.old) }

@@ -23,7 +23,8 @@ pub(crate) fn key_in_mask(
     line: &mut InputLine,
     key: Key,
 ) -> Result<JobReply, NoMemory>
-    ensures leads { IfOk result (MaskLeads (line_reply_of (input_shut line.old key)) carry chosen.now.paths other.now) }
+    ensures leads { IfOk result
+        (MaskLeads (line_reply_of (input_shut line.old key)) carry chosen.now.paths other.now) }
     ensures state { OnOk result (line.new ≡ input_after line.old key) }
     ensures kept { IfOk result (λ reply. stays reply ≡ false → line.new ≡ line.old) }
     ensures lost { OnErr result (line.new ≡ line.old) }
@@ -47,7 +48,8 @@ fn ask_target(
     chosen: &Chosen,
     mask: Text,
 ) -> Result<JobBox, NoMemory>
-    ensures { IfOk result (λ asks. seen_job_box asks ≡ TargetBox carry chosen.now.paths mask (target_line_of carry other.now)) }
+    ensures { IfOk result
+        (λ asks. seen_job_box asks ≡ TargetBox carry chosen.now.paths mask (target_line_of carry other.now)) }
 {
     let line = target_line(alloc, carry, other)?;
     let chosen = Chosen {

@@ -1,6 +1,7 @@
 //! What the live jobs allow.
 ghost use Rattle.std.specs.Prelude.{◌≡◌};
-ghost use Rattle.ui_job_boxes.specs.LiveJobs.{can_answer as may_answer, none_live as is_idle, row_waiting, takes_answer as may_take};
+ghost use Rattle.ui_job_boxes.specs.LiveJobs.{can_answer as may_answer, none_live as is_idle};
+ghost use Rattle.ui_job_boxes.specs.LiveJobs.{row_waiting, takes_answer as may_take};
 
 use crate::job_box::JobReply;
 use job_answers::{Waiting, then_after, waiting_in};

@@ -43,7 +43,8 @@ impl JobBox {
     }
 }
 
-/// The line that asks what a link is to say, in a panel: at first the path of the thing under the cursor, or that of the folder.
+/// The line that asks what a link is to say, in a panel: at first the path of the thing under the
+/// cursor, or that of the folder.
 fn first_line(alloc: Global, panel: &Panel) -> Result<InputLine, NoMemory>
     ensures { IfOk result (λ line. line ≡ link_asked panel.now) }
 {

@@ -1,4 +1,5 @@
-//! Keys in the lines by whose text a job is planned: the destination of what is copied or moved, a new folder's path, the name of a new link.
+//! Keys in the lines by whose text a job is planned: the destination of what is copied or moved, a new
+//! folder's path, the name of a new link.
 ghost use Rattle.std.specs.Prelude.{◌≡◌, [], false, OnErr, OnOk, IfOk};
 ghost use Rattle.mc_dialogs.specs.InputKeys.{input_after, input_shut};
 ghost use Rattle.ui_words.specs.BoxKeys.{line_reply as line_reply_of};
@@ -6,7 +7,8 @@ ghost use Rattle.ui_plans.specs.Choices.{plan_refusals};
 ghost use Rattle.ui_plans.specs.Reading.{ReadsTree};
 ghost use Rattle.ui_job_boxes.specs.JobBoxes.{seen_around};
 ghost use Rattle.ui_job_boxes.specs.Plans.{PlansBy, PlansAt};
-ghost use Rattle.ui_job_boxes.specs.Replies.{IsAllowed, IsPlanned, PathLeads, PlansAlone, reply_refusals, stays};
+ghost use Rattle.ui_job_boxes.specs.Replies.{IsAllowed, IsPlanned, PathLeads};
+ghost use Rattle.ui_job_boxes.specs.Replies.{PlansAlone, reply_refusals, stays};
 
 use crate::job_box::{JobReply, Surroundings};
 use crate::lines::type_in;
@@ -55,7 +57,8 @@ fn accept_path<T: ReadTree>(
     wanted: &PlanOf<'_>,
     text: &Text,
 ) -> Result<JobReply, NoMemory>
-    ensures leads { IfOk result (PlansAlone around.now.rows.now (PlansBy wanted.now (T.contents tree.old) (seen_around around.now) text.now)) }
+    ensures leads { IfOk result (PlansAlone around.now.rows.now
+        (PlansBy wanted.now (T.contents tree.old) (seen_around around.now) text.now)) }
     ensures allowed { IfOk result (IsAllowed around.now.rows.now) }
     ensures reads { ReadsTree reply_refusals result (T.contents tree.old) (T.contents tree.new)
         (T.fault_count tree.old) (T.fault_count tree.new) }
@@ -74,7 +77,8 @@ fn confirm<T: ReadTree>(
     wanted: &PlanOf<'_>,
     text: &Text,
 ) -> Result<JobReply, NoMemory>
-    ensures leads { IfOk result (IsPlanned (PlansBy wanted.now (T.contents tree.old) (seen_around around.now) text.now)) }
+    ensures leads { IfOk result
+        (IsPlanned (PlansBy wanted.now (T.contents tree.old) (seen_around around.now) text.now)) }
     ensures allowed { IfOk result (IsAllowed []) }
     ensures reads { ReadsTree reply_refusals result (T.contents tree.old) (T.contents tree.new)
         (T.fault_count tree.old) (T.fault_count tree.new) }

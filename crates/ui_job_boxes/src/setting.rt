@@ -4,7 +4,8 @@ ghost use Rattle.mc_dialogs.specs.ModeKeys.{mode_after, mode_shut};
 ghost use Rattle.ui_words.specs.BoxKeys.{mode_reply as mode_reply_of};
 ghost use Rattle.ui_plans.specs.Plans.{mode_plan};
 ghost use Rattle.ui_job_boxes.specs.Lines.{StaysWhereGiven};
-ghost use Rattle.ui_job_boxes.specs.Replies.{IsAllowed, IsFullAtMost, begun_alone, mode_answer, reply_refusals, stays};
+ghost use Rattle.ui_job_boxes.specs.Replies.{IsAllowed, IsFullAtMost, begun_alone};
+ghost use Rattle.ui_job_boxes.specs.Replies.{mode_answer, reply_refusals, stays};
 
 use crate::job_box::JobReply;
 use crate::live_jobs::{full, none_live};
@@ -24,7 +25,8 @@ pub(crate) fn key_in_mode(
     asked: &mut ModeBox,
     key: Key,
 ) -> Result<JobReply, NoMemory>
-    ensures leads { IfOk result (λ reply. reply ≡ mode_answer rows.now chosen.now.paths (mode_reply_of (mode_shut asked.old key))) }
+    ensures leads { IfOk result (λ reply.
+        reply ≡ mode_answer rows.now chosen.now.paths (mode_reply_of (mode_shut asked.old key))) }
     ensures state { OnOk result (asked.new ≡ mode_after asked.old key) }
     ensures kept { IfOk result (λ reply. stays reply ≡ false → asked.new ≡ asked.old) }
     ensures lost { OnErr result (asked.new ≡ asked.old) }

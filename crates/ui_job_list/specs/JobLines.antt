@@ -3,7 +3,8 @@ use Rattle.std.specs.Prelude.{ℕ, List, [], ◌∷◌, ◌++◌, codes}
 use Rattle.std.specs.Fmt.{decimal}
 use Rattle.mc_text.specs.Routes.{path_text}
 use Rattle.job_reports.specs.declared.row.JobKind.{JobKind}
-use Rattle.job_reports.specs.declared.row.JobKind.TheVariants.{Copy, Move, Delete, MakeFolder, MakeLink, SetMode}
+use Rattle.job_reports.specs.declared.row.JobKind.TheVariants.{Copy, Move, Delete}
+use Rattle.job_reports.specs.declared.row.JobKind.TheVariants.{MakeFolder, MakeLink, SetMode}
 use Rattle.job_reports.specs.declared.row.JobRow.{JobRow}
 use Rattle.job_reports.specs.declared.row.JobState.{JobState}
 use Rattle.job_reports.specs.declared.row.JobState.TheVariants.{Ready, Asking, Troubled, Stopped}
@@ -30,4 +31,5 @@ with_word line word = (line ++ 32 ∷ []) ++ word
 
 -- the line of a job: its number, what it is at, what it does, and to which path
 abbrev pub job_line : JobRow → List ℕ
-job_line row = with_word (with_word (with_word (decimal row.job) (state_word row.state)) (kind_word row.kind)) (path_text row.path)
+job_line row = with_word (with_word (with_word (decimal row.job) (state_word row.state)) (kind_word row.kind))
+    (path_text row.path)

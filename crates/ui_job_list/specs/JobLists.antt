@@ -1,5 +1,7 @@
--- The list of the live jobs: where its cursor stands, what a key comes to, and what it shows. Own, after the listboxes of mc(1).
-use Rattle.std.specs.Prelude.{ℕ, ◌-◌, min, List, length, map, take, drop, Option, Some, None, slice_get, codes}
+-- The list of the live jobs: where its cursor stands, what a key comes to, and what it shows. Own,
+-- after the listboxes of mc(1).
+use Rattle.std.specs.Prelude.{ℕ, ◌-◌, min, List, length, map, take, drop}
+use Rattle.std.specs.Prelude.{Option, Some, None, slice_get, codes}
 use Rattle.std.specs.Option.{option_map_or}
 use Rattle.job_reports.specs.declared.row.JobRow.{JobRow}
 use Rattle.job_reports.specs.declared.waits.Waits.{Waits}
@@ -28,7 +30,8 @@ page_of l = l.lines - 6
 
 -- the list over so many rows: neither the current one nor the first one shown lies behind the last
 abbrev pub cut_to : ℕ → JobList → JobList
-cut_to count l = record { lines = l.lines; current = min l.current (count - 1); first = min l.first (count - 1) }
+cut_to count l =
+    record { lines = l.lines; current = min l.current (count - 1); first = min l.first (count - 1) }
 
 -- KEYS
 
@@ -74,9 +77,11 @@ list_by rows l key = list_of (jobs_command key) rows l
 
 -- WHAT IT SHOWS
 
--- the lines over these rows from the first one shown on: the title, and so many of them, the current one in reverse
+-- the lines over these rows from the first one shown on: the title, and so many of them,
+-- the current one in reverse
 abbrev pub lines_from : List JobRow → JobList → List Line
-lines_from rows l = titled_rows (codes "Jobs") l.first l.current (map job_line (take (page_of l) (drop l.first rows)))
+lines_from rows l =
+    titled_rows (codes "Jobs") l.first l.current (map job_line (take (page_of l) (drop l.first rows)))
 
 -- its lines while these jobs are live
 abbrev pub jobs_lines : List JobRow → JobList → List Line

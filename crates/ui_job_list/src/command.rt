@@ -1,4 +1,5 @@
-//! The keys of the list. Those that stop, resume and kill a job (`s`, `r`, `k`) come with the table of jobs, and do nothing yet.
+//! The keys of the list. Those that stop, resume and kill a job (`s`, `r`, `k`) come with the table of
+//! jobs, and do nothing yet.
 ghost use Rattle.std.specs.Prelude.{◌≡◌};
 ghost use Rattle.ui_job_list.specs.JobKeys.{jobs_command};
 

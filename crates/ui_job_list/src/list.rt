@@ -1,6 +1,7 @@
 //! The list, and what a key comes to in it.
 ghost use Rattle.std.specs.Prelude.{◌≡◌, ◌<◌, ◌^◌, length, IfOk, OnErr, OnOk};
-ghost use Rattle.ui_job_list.specs.JobLists.{act_by, cut_to, enter_act, list_by, moved_by, opened_list, page_of as rows_on, row_opened};
+ghost use Rattle.ui_job_list.specs.JobLists.{act_by, cut_to, enter_act, list_by, moved_by};
+ghost use Rattle.ui_job_list.specs.JobLists.{opened_list, page_of as rows_on, row_opened};
 
 use crate::act::JobsAct;
 use crate::command::{JobsCommand, jobs_command};
@@ -10,8 +11,9 @@ use mc_dialogs::{moved, scrolled};
 use mc_text::NoMemory;
 use std::alloc::Global;
 
-/// The list of the live jobs on a screen of so many lines. It holds no rows: at each key and each draw they are those of the jobs that
-/// are live then, and where the last ones are gone the cursor stands on the last that is left.
+/// The list of the live jobs on a screen of so many lines. It holds no rows: at each key and each draw
+/// they are those of the jobs that are live then, and where the last ones are gone the cursor stands
+/// on the last that is left.
 #[derive(Clone, Copy, Debug, Drop, PartialEq, Eq)]
 pub struct JobList {
     pub(crate) lines: u16,
@@ -31,7 +33,8 @@ impl JobList {
         }
     }
 
-    /// Works a key while these jobs are live. Without memory the list stays as it was. It takes the time of the paths of one question or trouble at most.
+    /// Works a key while these jobs are live. Without memory the list stays as it was. It takes the time of
+    /// the paths of one question or trouble at most.
     pub fn key(&mut self, alloc: Global, rows: &JobRows, key: Key) -> Result<JobsAct, NoMemory>
         ensures act { IfOk result (λ act. act ≡ act_by rows.now self.old key) }
         ensures state { OnOk result (self.new ≡ list_by rows.now self.old key) }
@@ -62,7 +65,8 @@ impl JobList {
         }
     }
 
-    /// The list over as many rows as there are: neither the current row nor the first one shown lies behind the last.
+    /// The list over as many rows as there are: neither the current row nor the first one
+    /// shown lies behind the last.
     pub(crate) fn cut_to(self, rows: &[JobRow]) -> JobList
         ensures value { result ≡ cut_to (length rows.now) self }
         ensures current { result.current < 2 ^ 59 }

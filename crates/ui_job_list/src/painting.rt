@@ -12,8 +12,8 @@ use mc_text::{NoMemory, Text};
 use std::alloc::Global;
 
 impl JobList {
-    /// Paints it over a screen while these jobs are live. It takes the time of the rows that it shows. Where memory is wanting, a part of it
-    /// may stand.
+    /// Paints it over a screen while these jobs are live. It takes the time of the rows that it shows.
+    /// Where memory is wanting, a part of it may stand.
     pub fn paint(&self, alloc: Global, rows: &JobRows, grid: &mut Grid) -> Result<(), NoMemory>
         ensures { OnOk result (grid.new ≡ with_jobs rows.now self.now grid.old) }
     {

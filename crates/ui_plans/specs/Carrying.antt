@@ -1,4 +1,5 @@
--- Where things are copied or moved to, and why none is. The rule is that of a plan (`op_plan`), after mc(1), "Copy, Rename": masks.
+-- Where things are copied or moved to, and why none is. The rule is that of a plan (`op_plan`), after
+-- mc(1), "Copy, Rename": masks.
 use Rattle.std.specs.Prelude.{◌≡◌, ◌⊎◌, ℕ, true, false, List, Option, Some, Result, Ok, Err}
 use Rattle.mc_text.specs.Routes.{Route}
 use Rattle.tree_trait.specs.Change.{CallLog, current}
@@ -25,7 +26,8 @@ use Rattle.ui_plans.specs.Plans.{carry_plan}
 use Rattle.ui_plans.specs.Places.{is_below_home}
 use Rattle.ui_plans.specs.Told.{told_as}
 
--- what is asked for: the sources, the mask that they are to match, and the destination that was typed in a folder
+-- what is asked for: the sources, the mask that they are to match, and the destination
+-- that was typed in a folder
 abbrev pub carry_request : Carry → List Route → List ℕ → Route → List ℕ → Request
 carry_request carry.Copy paths mask from typed = asked.Copy paths mask from typed
 carry_request carry.Move paths mask from typed = asked.Move paths mask from typed
@@ -44,9 +46,11 @@ IsPlanOf how job = ⊥
 abbrev pub IsPlanned : Option CallLog → Request → Result Planned PlanError → Type 0
 IsPlanned contents request result = IfKnown contents (λ log. Plans (plan_of (current log) request) result)
 
--- Sources are to be copied or moved to their targets: they are those that were asked for, in their order, none of the sources and the targets
--- is, holds or lies in another, and they are what the plan comes to. What stands at a target is the job's to ask about.
-pub record AreCarried (how : Carry) (contents : Option CallLog) (paths : List Route) (mask : List ℕ) (from : Route) (typed : List ℕ) (pairs : List Pair) : Type 0 where
+-- Sources are to be copied or moved to their targets: they are those that were asked for, in their order,
+-- none of the sources and the targets is, holds or lies in another, and they are what the plan comes to.
+-- What stands at a target is the job's to ask about.
+pub record AreCarried (how : Carry) (contents : Option CallLog) (paths : List Route) (mask : List ℕ)
+    (from : Route) (typed : List ℕ) (pairs : List Pair) : Type 0 where
   pub not_home : is_below_home typed ≡ false
   pub asked_for : ArePairsFor paths mask typed pairs
   pub apart : ArePairsApart pairs
@@ -67,8 +71,10 @@ CarryRefused how contents paths mask from typed refusal =
 -- what planning to copy or to move things comes to: the plan, or why it is refused
 abbrev pub CarryLeads : Carry → Option CallLog → List Route → List ℕ → Route → List ℕ → JobPlan → Type 0
 CarryLeads how contents paths mask from typed (Begins plan) =
-    (pairs : List Pair) × AreCarried how contents paths mask from typed pairs × (plan ≡ carry_plan how pairs) × (are_workable plan ≡ true)
-CarryLeads how contents paths mask from typed (Refuses refusal) = CarryRefused how contents paths mask from typed refusal
+    (pairs : List Pair) × AreCarried how contents paths mask from typed pairs × (plan ≡ carry_plan how pairs)
+    × (are_workable plan ≡ true)
+CarryLeads how contents paths mask from typed (Refuses refusal) =
+    CarryRefused how contents paths mask from typed refusal
 
 -- the job of sources with their targets
 abbrev pub BeginsCarry : Carry → List Pair → JobPlan → Type 0

@@ -1,5 +1,6 @@
 -- What choosing the things that are selected comes to.
-use Rattle.std.specs.Prelude.{◌≡◌, ⊤, ℕ, Bool, true, false, List, [], ◌∷◌, length, map, nat_lt, Option, Some, None}
+use Rattle.std.specs.Prelude.{◌≡◌, ⊤, ℕ, Bool, true, false, List, [], ◌∷◌}
+use Rattle.std.specs.Prelude.{length, map, nat_lt, Option, Some, None}
 use Rattle.std.specs.List.{list_any}
 use Rattle.mc_text.specs.Routes.{Route, spelled_route}
 use Rattle.tree_trait.specs.declared.calls.Meta.{Meta}
@@ -47,9 +48,11 @@ HasSeenMode tree (Some path) mode = HasMode tree path mode
 abbrev pub MayAskOf : Opens → Option View → List Route → ℕ → Type 0
 MayAskOf box tree [] mode = ⊥
 MayAskOf box tree (path ∷ []) mode = MayAsk tree path true × HasMode tree path mode
-MayAskOf box tree (path ∷ other ∷ more) mode = (list_any is_too_long (path ∷ other ∷ more) ≡ false) × HasSeenMode tree (looked_at box (path ∷ other ∷ more)) mode
+MayAskOf box tree (path ∷ other ∷ more) mode = (list_any is_too_long (path ∷ other ∷ more) ≡ false)
+    × HasSeenMode tree (looked_at box (path ∷ other ∷ more)) mode
 
--- of these things: there are none; the path of one is too long; the box may ask of them; or the look at one was refused
+-- of these things: there are none; the path of one is too long; the box may ask of them; or
+-- the look at one was refused
 abbrev pub IsChoiceOf : Opens → Option View → List Route → Choice → Type 0
 IsChoiceOf box tree paths NoSelection = paths ≡ []
 IsChoiceOf box tree paths TooLong = list_any is_too_long paths ≡ true
@@ -80,7 +83,8 @@ first_of [] = None
 first_of (path ∷ paths) = Some path
 
 abbrev pub IsLookAtFirst : Option View → List Route → Choice → Type 0
-IsLookAtFirst tree paths (Things chosen mode) = HasSeenMode tree (first_of paths) mode × (chosen.paths ≡ paths)
+IsLookAtFirst tree paths (Things chosen mode) =
+    HasSeenMode tree (first_of paths) mode × (chosen.paths ≡ paths)
 IsLookAtFirst tree paths (Refused refused e) = first_of paths ≡ Some refused
 IsLookAtFirst tree paths NoSelection = ⊥
 IsLookAtFirst tree paths TooLong = ⊥
@@ -88,7 +92,8 @@ IsLookAtFirst tree paths TooLong = ⊥
 -- the paths of things in a folder, where none is too long
 abbrev pub ArePathsIn : Route → List (List ℕ) → Option (List Route) → Type 0
 ArePathsIn folder names None = list_any is_too_long (paths_in folder names) ≡ true
-ArePathsIn folder names (Some paths) = (list_any is_too_long (paths_in folder names) ≡ false) × (paths ≡ paths_in folder names)
+ArePathsIn folder names (Some paths) =
+    (list_any is_too_long (paths_in folder names) ≡ false) × (paths ≡ paths_in folder names)
 
 -- what a plan was refused
 abbrev pub plan_refusals : JobPlan → List Refusal

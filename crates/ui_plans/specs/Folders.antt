@@ -16,5 +16,6 @@ folder_plan path = plan.MakeFolder path
 -- what planning it comes to: the plan, where a new thing may be made, or why it is refused
 abbrev pub FolderLeads : Option CallLog → Route → List ℕ → JobPlan → Type 0
 FolderLeads contents from typed (Begins plan) =
-    (path : Route) × IsNewPlace contents from typed path × (plan ≡ folder_plan path) × (are_workable plan ≡ true)
+    (path : Route) × IsNewPlace contents from typed path × (plan ≡ folder_plan path)
+    × (are_workable plan ≡ true)
 FolderLeads contents from typed (Refuses refusal) = PlaceRefused contents from typed refusal

@@ -18,12 +18,14 @@ abbrev pub link_plan : Route → List ℕ → Job
 link_plan path text = plan.MakeLink path text
 
 -- a link may be made at a path that says a text: a new thing may be made there, and a link can say it
-pub record IsNewLink (contents : Option CallLog) (from : Route) (typed text : List ℕ) (path : Route) : Type 0 where
+pub record IsNewLink (contents : Option CallLog) (from : Route) (typed text : List ℕ)
+    (path : Route) : Type 0 where
   pub place : IsNewPlace contents from typed path
   pub says : is_link_text text ≡ true
 
 -- a new thing may be made at a path, and a link can't say the text
-pub record HasBadText (contents : Option CallLog) (from : Route) (typed text : List ℕ) (refusal : Refusal) : Type 0 where
+pub record HasBadText (contents : Option CallLog) (from : Route) (typed text : List ℕ)
+    (refusal : Refusal) : Type 0 where
   pub path : Route
   pub place : IsNewPlace contents from typed path
   pub says : is_link_text text ≡ false
@@ -31,15 +33,18 @@ pub record HasBadText (contents : Option CallLog) (from : Route) (typed text : L
 
 -- None is made: nothing new may be made there, or a link can't say the text.
 abbrev pub LinkRefused : Option CallLog → Route → List ℕ → List ℕ → Refusal → Type 0
-LinkRefused contents from typed text refusal = PlaceRefused contents from typed refusal ⊎ HasBadText contents from typed text refusal
+LinkRefused contents from typed text refusal =
+    PlaceRefused contents from typed refusal ⊎ HasBadText contents from typed text refusal
 
 -- what planning it comes to: the plan, or why it is refused
 abbrev pub LinkLeads : Option CallLog → Route → List ℕ → List ℕ → JobPlan → Type 0
 LinkLeads contents from typed text (Begins plan) =
-    (path : Route) × IsNewLink contents from typed text path × (plan ≡ link_plan path text) × (are_workable plan ≡ true)
+    (path : Route) × IsNewLink contents from typed text path × (plan ≡ link_plan path text)
+    × (are_workable plan ≡ true)
 LinkLeads contents from typed text (Refuses refusal) = LinkRefused contents from typed text refusal
 
 -- what comes of a path at which a new thing may be made
 abbrev pub IsLinkAt : Route → List ℕ → JobPlan → Type 0
-IsLinkAt path text (Begins plan) = (is_link_text text ≡ true) × (plan ≡ link_plan path text) × (are_workable plan ≡ true)
+IsLinkAt path text (Begins plan) =
+    (is_link_text text ≡ true) × (plan ≡ link_plan path text) × (are_workable plan ≡ true)
 IsLinkAt path text (Refuses refusal) = (is_link_text text ≡ false) × (refusal ≡ Plan BadLinkText)

@@ -1,5 +1,7 @@
--- Where a new thing is made, and why none is. The rule is that of a path for a new thing (`op_plan`): own, after mc(1), F7.
-use Rattle.std.specs.Prelude.{◌≡◌, ◌⊎◌, ℕ, Bool, true, false, ◌||◌, List, [], ◌∷◌, codes, Option, Some, None, Result, Ok, Err, is_some}
+-- Where a new thing is made, and why none is. The rule is that of a path for a new thing
+-- (`op_plan`): own, after mc(1), F7.
+use Rattle.std.specs.Prelude.{◌≡◌, ◌⊎◌, ℕ, Bool, true, false, ◌||◌, List, [], ◌∷◌}
+use Rattle.std.specs.Prelude.{codes, Option, Some, None, Result, Ok, Err, is_some}
 use Rattle.std.specs.Str.{bytes_eq}
 use Rattle.mc_text.specs.Routes.{Route, last_of}
 use Rattle.tree_trait.specs.Change.{CallLog, current}
@@ -10,10 +12,14 @@ use Rattle.op_plan.specs.declared.error.PlanError.TheVariants as place
 use Rattle.op_plan.specs.Answering.{Plans}
 use Rattle.op_plan.specs.Destinations.{last_part}
 use Rattle.op_plan.specs.Planning.{place_of}
-use Rattle.session_entries.specs.declared.refusal.PlanError.TheVariants.{NoSelection, TooLong, Nested, Source, BadMask, Target, TargetThere, SameFile, IntoItself, TwoToOne, BadLinkText}
+use Rattle.session_entries.specs.declared.refusal.PlanError.TheVariants.{NoSelection, TooLong, Nested}
+use Rattle.session_entries.specs.declared.refusal.PlanError.TheVariants.{Source, BadMask, Target}
+use Rattle.session_entries.specs.declared.refusal.PlanError.TheVariants.{TargetThere, SameFile, IntoItself}
+use Rattle.session_entries.specs.declared.refusal.PlanError.TheVariants.{TwoToOne, BadLinkText}
 use Rattle.session_entries.specs.declared.refusal.TypedError.TheVariants.{BadPattern, BadFormat, BadName}
 use Rattle.session_entries.specs.declared.refusal.Refusal.{Refusal}
-use Rattle.session_entries.specs.declared.refusal.Refusal.TheVariants.{Tree, Read, Resolve, Plan, Begin, Typed}
+use Rattle.session_entries.specs.declared.refusal.Refusal.TheVariants.{Tree, Read, Resolve}
+use Rattle.session_entries.specs.declared.refusal.Refusal.TheVariants.{Plan, Begin, Typed}
 use Rattle.ui_plans.specs.declared.new_place.NewPlace.{NewPlace}
 use Rattle.ui_plans.specs.declared.new_place.NewPlace.TheVariants.{At, Refused}
 use Rattle.ui_plans.specs.Plans.{IsVacant}
@@ -23,24 +29,30 @@ use Rattle.ui_plans.specs.Reading.{sight}
 abbrev pub is_below_home : List ℕ → Bool
 is_below_home typed = bytes_eq typed (codes "~") || is_some (behind_word (codes "~/") typed)
 
--- what a typed text comes to in a folder, as far as the tree tells: the path of a new thing, or why there is none
+-- what a typed text comes to in a folder, as far as the tree tells: the path of a new
+-- thing, or why there is none
 abbrev pub IsPlace : Option CallLog → Route → List ℕ → Result Route PlanError → Type 0
-IsPlace contents from typed result = IfKnown contents (λ log. Plans (place_of (current log) from typed) result)
+IsPlace contents from typed result =
+    IfKnown contents (λ log. Plans (place_of (current log) from typed) result)
 
--- A new thing may be made at a path: what is typed before its last slash leads from the panel's folder to that of the path, the last part
--- is its name, and nothing stands there.
-pub record IsNewPlace (contents : Option CallLog) (from : Route) (typed : List ℕ) (path : Route) : Type 0 where
+-- A new thing may be made at a path: what is typed before its last slash leads from the panel's folder to
+-- that of the path, the last part is its name, and nothing stands there.
+pub record IsNewPlace (contents : Option CallLog) (from : Route) (typed : List ℕ)
+    (path : Route) : Type 0 where
   pub not_home : is_below_home typed ≡ false
   pub named : last_of path ≡ Some (last_part typed)
   pub place : IsPlace contents from typed (Ok path)
   pub vacant : IsVacant (sight contents) path
 
--- None is made: something stands there; no way leads to its folder, or nothing can be seen of the path; or what is typed ends in no name, or
--- begins at HOME, and of that no more is said.
+-- None is made: something stands there; no way leads to its folder, or nothing can be seen of the path; or
+-- what is typed ends in no name, or begins at HOME, and of that no more is said.
 abbrev pub PlaceRefused : Option CallLog → Route → List ℕ → Refusal → Type 0
-PlaceRefused contents from typed (Plan (TargetThere there)) = (is_below_home typed ≡ false) × IsPlace contents from typed (Err (place.TargetThere there))
-PlaceRefused contents from typed (Plan (Target e)) = (is_below_home typed ≡ false) × IsPlace contents from typed (Err (place.Target e))
-PlaceRefused contents from typed (Typed BadName) = (is_below_home typed ≡ true) ⊎ IsPlace contents from typed (Err place.BadMask)
+PlaceRefused contents from typed (Plan (TargetThere there)) =
+    (is_below_home typed ≡ false) × IsPlace contents from typed (Err (place.TargetThere there))
+PlaceRefused contents from typed (Plan (Target e)) =
+    (is_below_home typed ≡ false) × IsPlace contents from typed (Err (place.Target e))
+PlaceRefused contents from typed (Typed BadName) =
+    (is_below_home typed ≡ true) ⊎ IsPlace contents from typed (Err place.BadMask)
 PlaceRefused contents from typed (Typed BadPattern) = ⊥
 PlaceRefused contents from typed (Typed (BadFormat at)) = ⊥
 PlaceRefused contents from typed (Plan BadMask) = ⊥
@@ -67,7 +79,8 @@ abbrev pub place_refusals : NewPlace → List Refusal
 place_refusals (At path) = []
 place_refusals (Refused refusal) = refusal ∷ []
 
--- the refusal that an error of such a path is: where no mask was asked for, what was typed makes no name; want of memory is none
+-- the refusal that an error of such a path is: where no mask was asked for, what was typed makes no
+-- name; want of memory is none
 abbrev pub told_of_place : PlanError → Option Refusal
 told_of_place place.BadMask = Some (Typed BadName)
 told_of_place (place.Target e) = Some (Plan (Target e))

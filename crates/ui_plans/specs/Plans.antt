@@ -1,5 +1,6 @@
 -- What a box may ask of, and the plans that it confirms.
-use Rattle.std.specs.Prelude.{◌≡◌, ℕ, Bool, true, false, ◌&&◌, not, is_some, nat_le, ⊤, List, [], ◌∷◌, length, Option, Some, None}
+use Rattle.std.specs.Prelude.{◌≡◌, ℕ, Bool, true, false, ◌&&◌, not, is_some}
+use Rattle.std.specs.Prelude.{nat_le, ⊤, List, [], ◌∷◌, length, Option, Some, None}
 use Rattle.std.specs.List.{list_all}
 use Rattle.std.specs.Option.{option_map}
 use Rattle.mc_text.specs.Routes.{Route, same_path, spelled_route}
@@ -11,7 +12,8 @@ use Rattle.ui_words.specs.Chosen.{is_within}
 use Rattle.ui_words.specs.declared.carry.Carry.{Carry}
 use Rattle.ui_words.specs.declared.carry.Carry.TheVariants as carry
 
--- a box may ask of the thing at a path: exactly where something stands there, as far as the tree can be seen, and the path isn't too long
+-- a box may ask of the thing at a path: exactly where something stands there, as far as the tree can be
+-- seen, and the path isn't too long
 abbrev pub MayAsk : Option View → Route → Bool → Type 0
 MayAsk None path asks = ⊤
 MayAsk (Some view) path asks = asks ≡ (is_some (view path).value && nat_le (length (spelled_route path)) 4096)

@@ -12,9 +12,10 @@ use Rattle.ui_plans.specs.Refused.{has_fault}
 abbrev pub sight : Option CallLog → Option View
 sight contents = option_map (λ (log : CallLog). visible_tree (current log)) contents
 
--- Reading calls leave the tree as it was. What they were refused has its cause there, and tells of a fault only where the tree's
--- count has risen.
-pub record ReadsTree {A E : Type 0} (refused : A → List Refusal) (result : Result A E) (before after : Option CallLog) (faults faults_after : ℕ) : Type 0 where
+-- Reading calls leave the tree as it was. What they were refused has its cause there, and tells of a fault
+-- only where the tree's count has risen.
+pub record ReadsTree {A E : Type 0} (refused : A → List Refusal) (result : Result A E)
+    (before after : Option CallLog) (faults faults_after : ℕ) : Type 0 where
   pub same : after ≡ before
   pub later : faults ≤ faults_after
   pub called : IfKnown before (λ log. IfOk result (λ answer. AreRefused log (refused answer)))

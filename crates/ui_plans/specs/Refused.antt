@@ -7,7 +7,8 @@ use Rattle.resolving.specs.declared.error.ResolveError.TheVariants as resolve
 use Rattle.session_entries.specs.declared.refusal.PlanError.{PlanError}
 use Rattle.session_entries.specs.declared.refusal.PlanError.TheVariants.{Source, Target}
 use Rattle.session_entries.specs.declared.refusal.Refusal.{Refusal}
-use Rattle.session_entries.specs.declared.refusal.Refusal.TheVariants.{Tree, Read, Resolve, Plan, Begin, Typed}
+use Rattle.session_entries.specs.declared.refusal.Refusal.TheVariants.{Tree, Read, Resolve}
+use Rattle.session_entries.specs.declared.refusal.Refusal.TheVariants.{Plan, Begin, Typed}
 
 -- the tree failed at a look or a reading that was refused
 abbrev pub is_fault : TreeError → Bool

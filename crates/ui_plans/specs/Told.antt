@@ -2,7 +2,9 @@
 use Rattle.std.specs.Prelude.{◌≡◌, Option, Some, None}
 use Rattle.op_plan.specs.declared.error.PlanError.{PlanError}
 use Rattle.op_plan.specs.declared.error.PlanError.TheVariants as place
-use Rattle.session_entries.specs.declared.refusal.PlanError.TheVariants.{NoSelection, Nested, Source, BadMask, Target, TargetThere, SameFile, IntoItself, TwoToOne, BadLinkText}
+use Rattle.session_entries.specs.declared.refusal.PlanError.TheVariants.{NoSelection, Nested, Source, BadMask}
+use Rattle.session_entries.specs.declared.refusal.PlanError.TheVariants.{Target, TargetThere, SameFile}
+use Rattle.session_entries.specs.declared.refusal.PlanError.TheVariants.{IntoItself, TwoToOne, BadLinkText}
 use Rattle.session_entries.specs.declared.refusal.Refusal.{Refusal}
 use Rattle.session_entries.specs.declared.refusal.Refusal.TheVariants.{Plan}
 use Rattle.ui_plans.specs.declared.carrying.JobPlan.{JobPlan}

@@ -24,9 +24,10 @@ pub enum JobPlan {
     Refuses(Refusal),
 }
 
-/// Plans how those things that a mask matches are copied or moved to where a typed text leads from a folder. The text's last part makes the
-/// targets' names of the sources', or names the folder that is to hold them. What stands at a target is the job's to ask about. What begins
-/// at HOME, which isn't known here, is refused without a look.
+/// Plans how those things that a mask matches are copied or moved to where a typed text leads from a
+/// folder. The text's last part makes the targets' names of the sources', or names the folder that is to
+/// hold them. What stands at a target is the job's to ask about. What begins at HOME, which isn't known
+/// here, is refused without a look.
 pub fn plan_carry<T: ReadTree>(
     alloc: Global,
     tree: &mut T,
@@ -36,7 +37,8 @@ pub fn plan_carry<T: ReadTree>(
     from: &Path,
     typed: &str,
 ) -> Result<JobPlan, NoMemory>
-    ensures leads { IfOk result (CarryLeads carry (T.contents tree.old) chosen.now.paths mask.now from.now typed.now) }
+    ensures leads { IfOk result
+        (CarryLeads carry (T.contents tree.old) chosen.now.paths mask.now from.now typed.now) }
     ensures home { is_below_home typed.now ≡ true → tree.new ≡ tree.old }
     ensures reads { ReadsTree plan_refusals result (T.contents tree.old) (T.contents tree.new)
         (T.fault_count tree.old) (T.fault_count tree.new) }
@@ -60,7 +62,8 @@ fn request_of(
     from: &Path,
     typed: &str,
 ) -> Result<Request, NoMemory>
-    ensures { IfOk result (λ request. request ≡ carry_request carry chosen.now.paths mask.now from.now typed.now) }
+    ensures { IfOk result
+        (λ request. request ≡ carry_request carry chosen.now.paths mask.now from.now typed.now) }
 {
     let sources = chosen.paths.copy(alloc)?;
     let mask = Text::from_str(alloc, mask)?;

@@ -2,7 +2,8 @@
 ghost use Rattle.std.specs.Prelude.{◌≡◌, ◌∷◌, [], true, None, IfOk};
 ghost use Rattle.panel_state.specs.Selections.{selection};
 ghost use Rattle.ui_words.specs.Chosen.{can_be_chosen};
-ghost use Rattle.ui_plans.specs.Choices.{ArePathsIn, IsChoice, IsChoiceOf, IsLookAtFirst, IsThing, are_several, choice_refusals, looked_at, paths_in};
+ghost use Rattle.ui_plans.specs.Choices.{ArePathsIn, IsChoice, IsChoiceOf, IsLookAtFirst, IsThing};
+ghost use Rattle.ui_plans.specs.Choices.{are_several, choice_refusals, looked_at, paths_in};
 ghost use Rattle.ui_plans.specs.Reading.{ReadsTree, sight};
 
 use mc_text::{Name, NoMemory, Path, PathError, Paths};
@@ -32,8 +33,9 @@ pub enum Choice {
     Refused(Path, TreeError),
 }
 
-/// Chooses the things that are selected, of which a box then asks: those that are tagged, or else the one under the cursor. One thing is
-/// looked at; of several the first, where a mode is asked for. It goes over the shown names at most twice.
+/// Chooses the things that are selected, of which a box then asks: those that are tagged, or else the one
+/// under the cursor. One thing is looked at; of several the first, where a mode is asked for. It goes over
+/// the shown names at most twice.
 pub fn choose<T: ReadTree>(
     alloc: Global,
     tree: &mut T,
@@ -41,7 +43,8 @@ pub fn choose<T: ReadTree>(
     opens: Opens,
 ) -> Result<Choice, NoMemory>
     ensures chosen { IfOk result (IsChoice opens (sight (T.contents tree.old)) panel.now) }
-    ensures still { looked_at opens (paths_in panel.now.folder (selection panel.now)) ≡ None → tree.new ≡ tree.old }
+    ensures still { looked_at opens (paths_in panel.now.folder (selection panel.now)) ≡ None
+        → tree.new ≡ tree.old }
     ensures reads { ReadsTree choice_refusals result (T.contents tree.old) (T.contents tree.new)
         (T.fault_count tree.old) (T.fault_count tree.new) }
 {
@@ -61,7 +64,8 @@ fn choose_one<T: ReadTree>(
     name: &Name,
     opens: Opens,
 ) -> Result<Choice, NoMemory>
-    ensures chosen { IfOk result (IsChoiceOf opens (sight (T.contents tree.old)) (paths_in panel.now.folder (name.now ∷ []))) }
+    ensures chosen { IfOk result
+        (IsChoiceOf opens (sight (T.contents tree.old)) (paths_in panel.now.folder (name.now ∷ []))) }
     ensures reads { ReadsTree choice_refusals result (T.contents tree.old) (T.contents tree.new)
         (T.fault_count tree.old) (T.fault_count tree.new) }
 {
@@ -96,7 +100,8 @@ fn choose_several<T: ReadTree>(
     opens: Opens,
 ) -> Result<Choice, NoMemory>
     requires several { are_several names.now ≡ true }
-    ensures chosen { IfOk result (IsChoiceOf opens (sight (T.contents tree.old)) (paths_in panel.now.folder names.now)) }
+    ensures chosen { IfOk result
+        (IsChoiceOf opens (sight (T.contents tree.old)) (paths_in panel.now.folder names.now)) }
     ensures still { looked_at opens (paths_in panel.now.folder names.now) ≡ None → tree.new ≡ tree.old }
     ensures reads { ReadsTree choice_refusals result (T.contents tree.old) (T.contents tree.new)
         (T.fault_count tree.old) (T.fault_count tree.new) }

@@ -17,9 +17,9 @@ pub(crate) enum NewPlace {
     Refused(Refusal),
 }
 
-/// The path to which a typed text leads from a folder: what stands before its last slash leads to the folder that is to hold the new
-/// thing, and the last part is its name. It is refused where something stands there. What begins at HOME, which isn't known here, is
-/// refused too, without a look.
+/// The path to which a typed text leads from a folder: what stands before its last slash leads to the
+/// folder that is to hold the new thing, and the last part is its name. It is refused where something
+/// stands there. What begins at HOME, which isn't known here, is refused too, without a look.
 pub(crate) fn new_place<T: ReadTree>(
     alloc: Global,
     tree: &mut T,

@@ -37,7 +37,8 @@ LooksAtNothing None v = ⊤
 LooksAtNothing (Some SearchNext) v = v.last ≡ None
 LooksAtNothing (Some other) v = ⊥
 
--- What an answer to a question wants: a place, where the text is a number of 64 bits, or else nothing; or a search.
+-- What an answer to a question wants: a place, where the text is a number of 64 bits, or
+-- else nothing; or a search.
 abbrev pub motion_of : Question → List ℕ → Option Motion
 motion_of Line text = option_map (λ n. Step (step.Line n)) (number_in text)
 motion_of Byte text = option_map (λ n. Step (step.Byte n)) (number_in text)

@@ -10,7 +10,8 @@ use Rattle.screen_frame.specs.declared.page.Page.{Page}
 use Rattle.screen_frame.specs.declared.page.Run.{Run}
 use Rattle.screen_frame.specs.Pages.{page_frame}
 use Rattle.mc_viewer.specs.declared.error.ViewError.{ViewError}
-use Rattle.mc_viewer.specs.declared.error.ViewError.TheVariants.{Tree, NotFound, BadPattern, LineTooLong, Memory}
+use Rattle.mc_viewer.specs.declared.error.ViewError.TheVariants.{Tree, NotFound, BadPattern}
+use Rattle.mc_viewer.specs.declared.error.ViewError.TheVariants.{LineTooLong, Memory}
 use Rattle.ui_words.specs.Causes.{cause_words}
 use Rattle.ui_viewer.specs.declared.asking.Asking.{Asking}
 use Rattle.ui_viewer.specs.ViewerScreens.{ViewerScreen}
@@ -43,4 +44,5 @@ with_message title (Some why) grid = with_box grid (plain_lines (message_lines t
 
 -- the frame of a screen of this size: the page has the rows as they were read last
 unfoldable pub frame_of : ℕ → ℕ → ViewerScreen → CellGrid
-frame_of lines columns s = with_message s.title s.refused (with_asking s.asking (page_frame lines columns (page_with s.title s.rows)))
+frame_of lines columns s = with_message s.title s.refused
+    (with_asking s.asking (page_frame lines columns (page_with s.title s.rows)))

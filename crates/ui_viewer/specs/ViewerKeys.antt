@@ -1,4 +1,5 @@
--- The keys of the viewer, while no line asks over it (mc(1), "Internal File Viewer"; the function keys are those of its bottom line).
+-- The keys of the viewer, while no line asks over it (mc(1), "Internal File Viewer"; the function keys are
+-- those of its bottom line).
 use Rattle.std.specs.Prelude.{ℕ, ◌==◌, if◌then◌else◌}
 use Rattle.key_screen.specs.declared.keys.Key.{Key}
 use Rattle.key_screen.specs.declared.keys.Base.{Base}
@@ -6,7 +7,8 @@ use Rattle.key_screen.specs.declared.keys.Base.TheVariants as key
 use Rattle.mc_viewer.specs.declared.state.ViewStep.TheVariants as step
 use Rattle.ui_viewer.specs.declared.asking.Question.TheVariants.{PlainText, Expression}
 use Rattle.ui_viewer.specs.declared.command.ViewerCommand.{ViewerCommand}
-use Rattle.ui_viewer.specs.declared.command.ViewerCommand.TheVariants.{Step, AskPlace, Ask, SearchNext, Leave, Nothing}
+use Rattle.ui_viewer.specs.declared.command.ViewerCommand.TheVariants.{Step, AskPlace, Ask}
+use Rattle.ui_viewer.specs.declared.command.ViewerCommand.TheVariants.{SearchNext, Leave, Nothing}
 
 -- what a function key does
 abbrev pub function_command : ℕ → ViewerCommand
@@ -19,7 +21,8 @@ function_command number =
     else if number == 10 then Leave
     else Nothing
 
--- what a character does: a blank and `b` go by pages, `/` asks for a regular expression, `n` searches once more, `q` leaves
+-- what a character does: a blank and `b` go by pages, `/` asks for a regular expression, `n`
+-- searches once more, `q` leaves
 abbrev pub character_command : ℕ → ViewerCommand
 character_command character =
     if character == 32 then Step step.PageDown

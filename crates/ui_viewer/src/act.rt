@@ -6,7 +6,8 @@ use mc_viewer::ViewError;
 pub enum ViewerAct {
     /// The file is viewed on.
     Stays,
-    /// The viewer was refused what the key wanted of it. Never for want of memory, which is an error of its own.
+    /// The viewer was refused what the key wanted of it. Never for want of memory,
+    /// which is an error of its own.
     Refused(ViewError),
     /// The viewer is left.
     Leaves,

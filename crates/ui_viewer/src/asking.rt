@@ -2,7 +2,8 @@
 ghost use Rattle.std.specs.Prelude.{◌≡◌, IfOk, OnOk, OnErr};
 ghost use Rattle.ui_words.specs.BoxKeys.{line_reply as line_reply_of};
 ghost use Rattle.mc_dialogs.specs.InputKeys.{input_after, input_shut};
-ghost use Rattle.ui_viewer.specs.Questions.{StaysWhereTaken, opened_line, place_question as question_of_place, title_of};
+ghost use Rattle.ui_viewer.specs.Questions.{StaysWhereTaken, opened_line};
+ghost use Rattle.ui_viewer.specs.Questions.{place_question as question_of_place, title_of};
 
 use key_screen::Key;
 use mc_dialogs::InputLine;

@@ -1,6 +1,7 @@
 //! The keys of the viewer.
 ghost use Rattle.std.specs.Prelude.{◌≡◌};
-ghost use Rattle.ui_viewer.specs.ViewerKeys.{base_command, character_command, function_command, viewer_command};
+ghost use Rattle.ui_viewer.specs.ViewerKeys.{base_command, character_command};
+ghost use Rattle.ui_viewer.specs.ViewerKeys.{function_command, viewer_command};
 
 use crate::asking::Question;
 use key_screen::{Base, Key};

@@ -3,7 +3,8 @@ ghost use Rattle.std.specs.Prelude.{◌≡◌, ◌<◌, ◌^◌, length, map, If
 ghost use Rattle.mc_dialogs.specs.Boxes.{with_box};
 ghost use Rattle.mc_dialogs.specs.InputField.{with_input};
 ghost use Rattle.mc_dialogs.specs.QuestionKeys.{plain_lines as plain_lines_of};
-ghost use Rattle.ui_viewer.specs.ViewerFrames.{frame_of, page_row as row_of, page_with, with_asking, with_message};
+ghost use Rattle.ui_viewer.specs.ViewerFrames.{frame_of, page_row as row_of};
+ghost use Rattle.ui_viewer.specs.ViewerFrames.{page_with, with_asking, with_message};
 
 use crate::asking::Asking;
 use crate::message::message_lines;
@@ -16,7 +17,8 @@ use screen_frame::{KeyBar, Page, PageRow, PageRows, Run, paint_page};
 use std::alloc::Global;
 
 impl ViewerMode {
-    /// The frame of a screen of so many lines and columns. It reads no tree, and takes the time of the cells and texts on the screen.
+    /// The frame of a screen of so many lines and columns. It reads no tree, and takes the time of the
+    /// cells and texts on the screen.
     #[tactic(auto, unfolding(crate::specs::ViewerFrames::frame_of))]
     pub fn frame(&self, alloc: Global, lines: u16, columns: u16) -> Result<Grid, NoMemory>
         ensures frame { IfOk result (λ grid. grid ≡ frame_of lines columns self.now) }

@@ -1,4 +1,5 @@
-//! What stands on the screen while a file is viewed: a page of it, a line that asks over it, and a message over all.
+//! What stands on the screen while a file is viewed: a page of it, a line that asks over
+//! it, and a message over all.
 #![tactic(auto)]
 
 mod act;

@@ -5,7 +5,8 @@ ghost use Rattle.mc_viewer.specs.declared.subject.Subject.TheVariants.{File};
 ghost use Rattle.mc_viewer.specs.Viewing.{AsTheTreeSays, IsReadError};
 ghost use Rattle.ui_viewer.specs.Motions.{LooksAtNothing};
 ghost use Rattle.ui_viewer.specs.declared.act.ViewerAct.{ViewerAct as ViewerActType};
-ghost use Rattle.ui_viewer.specs.ViewerScreens.{IsOpened, KeyLeads, ReadsTree, after_message, shuts_message as does_shut, wanted_motion};
+ghost use Rattle.ui_viewer.specs.ViewerScreens.{IsOpened, KeyLeads, ReadsTree, after_message};
+ghost use Rattle.ui_viewer.specs.ViewerScreens.{shuts_message as does_shut, wanted_motion};
 
 mod line_keys;
 mod page_keys;
@@ -20,8 +21,9 @@ use std::marker::Model;
 use tree_trait::{ReadTree, TreeError};
 use ui_words::closes_message;
 
-/// A file that is viewed: the page as it was read last, a line that asks over it, and a message of what was refused. Of the file it
-/// keeps the rows on the screen alone: a frame reads no tree, so a key reads the page that it leads to.
+/// A file that is viewed: the page as it was read last, a line that asks over it, and a message of what
+/// was refused. Of the file it keeps the rows on the screen alone: a frame reads no tree, so a key reads
+/// the page that it leads to.
 #[derive(Debug, Drop)]
 pub struct ViewerMode {
     title: Text,
@@ -36,11 +38,18 @@ impl Model for ViewerMode {
 
     ghost Value = { ViewerScreen };
 
-    ghost view = { λ m. record { title = m.title; viewer = m.viewer; rows = m.rows; asking = m.asking; refused = m.refused } };
+    ghost view = { λ m. record {
+      title = m.title;
+      viewer = m.viewer;
+      rows = m.rows;
+      asking = m.asking;
+      refused = m.refused;
+    } };
 }
 
 impl ViewerMode {
-    /// Opens a file at its top, on a screen of so many lines and columns, at least one. A file that can't be read is refused.
+    /// Opens a file at its top, on a screen of so many lines and columns, at least one. A file that
+    /// can't be read is refused.
     pub fn open<T: ReadTree>(
         alloc: Global,
         tree: &mut T,
@@ -49,10 +58,12 @@ impl ViewerMode {
         columns: u16,
     ) -> Result<ViewerMode, ViewError>
         ensures opened { IfOk result (λ mode. IsOpened (T.contents tree.old) path.now lines columns mode) }
-        ensures refused { IfKnown (T.contents tree.old) (λ log. IfErr result (AsTheTreeSays log (File path.now))) }
+        ensures refused { IfKnown (T.contents tree.old) (λ log.
+            IfErr result (AsTheTreeSays log (File path.now))) }
         ensures kinds { IfErr result IsReadError }
         ensures same { T.contents tree.new ≡ T.contents tree.old }
-        ensures cause { HasCause (ViewError.Tree TreeError.Fault) (T.fault_count tree.old) (T.fault_count tree.new) result }
+        ensures cause { HasCause (ViewError.Tree TreeError.Fault) (T.fault_count tree.old)
+            (T.fault_count tree.new) result }
     {
         let title = path.text(alloc)?;
         let subject = Subject::File(path.copy(alloc)?);
@@ -67,8 +78,8 @@ impl ViewerMode {
         })
     }
 
-    /// Works a key. One that goes somewhere reads what it needs of the file, and the page that it leads to; where that is refused
-    /// all stays as it was, under a message. One that goes nowhere looks at nothing.
+    /// Works a key. One that goes somewhere reads what it needs of the file, and the page that it leads to;
+    /// where that is refused all stays as it was, under a message. One that goes nowhere looks at nothing.
     pub fn key<T: ReadTree>(
         &mut self,
         alloc: Global,
@@ -78,7 +89,8 @@ impl ViewerMode {
         ensures leads { IfOk result (λ act. KeyLeads (T.contents tree.old) key act self.old self.new) }
         ensures still { LooksAtNothing (wanted_motion key self.old) self.old.viewer → tree.new ≡ tree.old }
         ensures lost { OnErr result (self.new ≡ self.old) }
-        ensures reads { ReadsTree (λ (act : ViewerActType). act) result (T.contents tree.old) (T.contents tree.new) (T.fault_count tree.old) (T.fault_count tree.new) }
+        ensures reads { ReadsTree (λ (act : ViewerActType). act) result (T.contents tree.old)
+            (T.contents tree.new) (T.fault_count tree.old) (T.fault_count tree.new) }
     {
         if self.has_message() {
             self.key_in_message(key);

@@ -26,7 +26,8 @@ pub enum Motion {
     SearchNext,
 }
 
-/// What an answer to a question wants of the viewer: nothing where a place was asked for, and the text is no number of 64 bits.
+/// What an answer to a question wants of the viewer: nothing where a place was asked for, and the text
+/// is no number of 64 bits.
 pub fn motion_of(question: Question, text: Text) -> Option<Motion>
     ensures { result ≡ motion_of question text }
 {
@@ -66,7 +67,8 @@ fn bytes_of(text: Text) -> Bytes
     Bytes(text.into_bytes())
 }
 
-/// Does what is wanted of the viewer, and gives the rows that are shown then. Where that is refused it stays as it was.
+/// Does what is wanted of the viewer, and gives the rows that are shown then. Where that is
+/// refused it stays as it was.
 pub fn page_after<T: ReadTree>(
     viewer: &mut Viewer,
     alloc: Global,
@@ -84,10 +86,12 @@ pub fn page_after<T: ReadTree>(
     ensures still { LooksAtNothing (Some motion) viewer.old → tree.new ≡ tree.old }
     ensures readable { IfKnown (T.contents tree.old) (λ log.
         IfRead result (Reads motion viewer.old → IsReadable log viewer.old.subject)) }
-    ensures refused { IfKnown (T.contents tree.old) (λ log. IfErr result (AsTheTreeSays log viewer.old.subject)) }
+    ensures refused { IfKnown (T.contents tree.old) (λ log.
+        IfErr result (AsTheTreeSays log viewer.old.subject)) }
     ensures kinds { IfErr result (MayRefuse motion) }
     ensures same { T.contents tree.new ≡ T.contents tree.old }
-    ensures cause { HasCause (ViewError.Tree TreeError.Fault) (T.fault_count tree.old) (T.fault_count tree.new) result }
+    ensures cause { HasCause (ViewError.Tree TreeError.Fault) (T.fault_count tree.old)
+        (T.fault_count tree.new) result }
 {
     match motion {
         Motion::Step(step) => viewer.step_to_page(alloc, tree, step),

@@ -20,7 +20,8 @@ pub enum Opening {
     Unread(Path, TreeError),
 }
 
-/// Opens the thing of this name in a folder, or the one to which it leads as a link, on a screen of so many lines and columns.
+/// Opens the thing of this name in a folder, or the one to which it leads as a link, on a screen of
+/// so many lines and columns.
 pub fn open_thing<T: ReadTree>(
     alloc: Global,
     tree: &mut T,
@@ -30,7 +31,8 @@ pub fn open_thing<T: ReadTree>(
     columns: u16,
 ) -> Result<Opening, NoMemory>
     ensures opens { IfOk result (OpensThing (T.contents tree.old) folder.now name.now lines columns) }
-    ensures reads { ReadsToOpen result (T.contents tree.old) (T.contents tree.new) (T.fault_count tree.old) (T.fault_count tree.new) }
+    ensures reads { ReadsToOpen result (T.contents tree.old) (T.contents tree.new) (T.fault_count tree.old)
+        (T.fault_count tree.new) }
 {
     match resolve(alloc, tree, Wanted::AnyThing, folder, name) {
         Ok(path) => open_path(alloc, tree, path, lines, columns),
@@ -48,7 +50,8 @@ fn open_path<T: ReadTree>(
     columns: u16,
 ) -> Result<Opening, NoMemory>
     ensures opens { IfOk result (OpensPath (T.contents tree.old) path lines columns) }
-    ensures reads { ReadsToOpen result (T.contents tree.old) (T.contents tree.new) (T.fault_count tree.old) (T.fault_count tree.new) }
+    ensures reads { ReadsToOpen result (T.contents tree.old) (T.contents tree.new) (T.fault_count tree.old)
+        (T.fault_count tree.new) }
 {
     match ViewerMode::open(alloc, tree, &path, lines, columns) {
         Ok(mode) => Ok(Opening::Viewed(mode)),

@@ -1,10 +1,12 @@
--- What a key makes of each box: one table a box. Own, but for the letters, which are those of a question box of `mc_dialogs`.
+-- What a key makes of each box: one table a box. Own, but for the letters, which are those of a
+-- question box of `mc_dialogs`.
 use Rattle.std.specs.Prelude.{ℕ, Bool, true, false, ◌==◌, if◌then◌else◌, List, [], ◌∷◌}
 use Rattle.key_screen.specs.declared.keys.Key.{Key}
 use Rattle.key_screen.specs.declared.keys.Base.{Base}
 use Rattle.key_screen.specs.declared.keys.Base.TheVariants.{Enter, Escape}
 use Rattle.job_reports.specs.declared.answer.Answer.{Answer}
-use Rattle.job_reports.specs.declared.answer.Answer.TheVariants.{Yes, No, All, Update, Nothing, SizeDiffers, Retry, Skip, SkipAll, Abort}
+use Rattle.job_reports.specs.declared.answer.Answer.TheVariants.{Yes, No, All, Update, Nothing}
+use Rattle.job_reports.specs.declared.answer.Answer.TheVariants.{SizeDiffers, Retry, Skip, SkipAll, Abort}
 use Rattle.job_reports.specs.declared.waits.Waits.{Waits}
 use Rattle.job_reports.specs.declared.waits.Waits.TheVariants as waits
 use Rattle.mc_dialogs.specs.declared.shut.Shut.{Shut}
@@ -38,7 +40,8 @@ delete_reply_to key = delete_reply (letters_shut delete_letters key)
 abbrev pub question_letters : List ℕ
 question_letters = 121 ∷ 110 ∷ 97 ∷ 117 ∷ 111 ∷ 115 ∷ 98 ∷ []
 
--- the letters of a trouble: `r`, `s`, `a` and `b`, and at a barrier, where nothing can be skipped, `r` and `b`
+-- the letters of a trouble: `r`, `s`, `a` and `b`, and at a barrier, where nothing
+-- can be skipped, `r` and `b`
 abbrev pub trouble_letters : Bool → List ℕ
 trouble_letters true = 114 ∷ 98 ∷ []
 trouble_letters false = 114 ∷ 115 ∷ 97 ∷ 98 ∷ []
@@ -50,7 +53,8 @@ waits_letters (waits.Trouble trouble) = trouble_letters trouble.barrier
 
 -- what is answered by such a letter for all items from here on
 abbrev pub answer_for_all : ℕ → Answer
-answer_for_all letter = if letter == 97 then All else if letter == 117 then Update else if letter == 111 then Nothing else if letter == 115 then SizeDiffers else Abort
+answer_for_all letter = if letter == 97 then All else if letter == 117 then Update
+    else if letter == 111 then Nothing else if letter == 115 then SizeDiffers else Abort
 
 -- what is answered to a question by such a letter
 abbrev pub question_answer : ℕ → Answer
@@ -58,7 +62,8 @@ question_answer letter = if letter == 121 then Yes else if letter == 110 then No
 
 -- what is done about a trouble by such a letter
 abbrev pub trouble_answer : ℕ → Answer
-trouble_answer letter = if letter == 114 then Retry else if letter == 115 then Skip else if letter == 97 then SkipAll else Abort
+trouble_answer letter =
+    if letter == 114 then Retry else if letter == 115 then Skip else if letter == 97 then SkipAll else Abort
 
 -- what such a letter answers
 abbrev pub letter_answer : Waits → ℕ → Answer
@@ -75,7 +80,8 @@ answer_reply waits (Closed other) = answer.Shuts
 abbrev pub answer_reply_to : Waits → Key → AnswerReply
 answer_reply_to waits key = answer_reply waits (letters_shut (waits_letters waits) key)
 
--- what the answer of an input line comes to. Until jobs run in the background it closes as Enter does by meta with `b` too
+-- what the answer of an input line comes to. Until jobs run in the background it closes as Enter
+-- does by meta with `b` too
 abbrev pub line_reply : Shut → LineReply
 line_reply Stay = line.Stays
 line_reply (Closed (Line text background)) = line.Takes text

@@ -10,9 +10,13 @@ use Rattle.job_reports.specs.declared.waits.Waits.TheVariants as waits
 use Rattle.resolving.specs.declared.error.ResolveError.{ResolveError}
 use Rattle.resolving.specs.declared.error.ResolveError.TheVariants as resolve
 use Rattle.session_entries.specs.declared.refusal.PlanError.{PlanError}
-use Rattle.session_entries.specs.declared.refusal.PlanError.TheVariants.{NoSelection, TooLong, Nested, Source, BadMask, Target, TargetThere, SameFile, IntoItself, TwoToOne, BadLinkText}
+use Rattle.session_entries.specs.declared.refusal.PlanError.TheVariants.{NoSelection, TooLong, Nested}
+use Rattle.session_entries.specs.declared.refusal.PlanError.TheVariants.{Source, BadMask, Target}
+use Rattle.session_entries.specs.declared.refusal.PlanError.TheVariants.{TargetThere, SameFile, IntoItself}
+use Rattle.session_entries.specs.declared.refusal.PlanError.TheVariants.{TwoToOne, BadLinkText}
 use Rattle.session_entries.specs.declared.refusal.Refusal.{Refusal}
-use Rattle.session_entries.specs.declared.refusal.Refusal.TheVariants.{Tree, Read, Resolve, Plan, Begin, Typed}
+use Rattle.session_entries.specs.declared.refusal.Refusal.TheVariants.{Tree, Read, Resolve}
+use Rattle.session_entries.specs.declared.refusal.Refusal.TheVariants.{Plan, Begin, Typed}
 use Rattle.mc_dialogs.specs.InputKeys.{InputState}
 use Rattle.mc_dialogs.specs.ModeKeys.{ModeState}
 use Rattle.ui_words.specs.declared.carry.Carry.{Carry}
@@ -77,12 +81,14 @@ message_lines Help =
 
 -- the lines of the box that asks whether to delete so many things
 abbrev pub delete_lines : ℕ → List (List ℕ)
-delete_lines count = (codes "Delete " ++ (decimal count ++ codes " things?")) ∷ codes "y Delete  g Background  n No" ∷ []
+delete_lines count =
+    (codes "Delete " ++ (decimal count ++ codes " things?")) ∷ codes "y Delete  g Background  n No" ∷ []
 
 -- the sizes of the source and of what stands at the target
 abbrev pub sizes_line : Question → List ℕ
 sizes_line question =
-    codes "source " ++ (decimal question.source_size ++ (codes " bytes, target " ++ (decimal question.target_size ++ codes " bytes")))
+    codes "source " ++ (decimal question.source_size
+    ++ (codes " bytes, target " ++ (decimal question.target_size ++ codes " bytes")))
 
 -- the lines of a question's box: the target, both sizes, and the letters that answer, with their words
 abbrev pub question_lines : Question → List (List ℕ)
@@ -97,7 +103,8 @@ trouble_letter_words false = codes "r Retry  s Skip  a Skip all  b Abort"
 
 -- the lines of a trouble's box; the path's is empty where there is none
 abbrev pub trouble_lines : Trouble → List (List ℕ)
-trouble_lines trouble = trouble_words trouble.cause ∷ option_map_or path_text trouble.path [] ∷ trouble_letter_words trouble.barrier ∷ []
+trouble_lines trouble = trouble_words trouble.cause ∷ option_map_or path_text trouble.path []
+    ∷ trouble_letter_words trouble.barrier ∷ []
 
 -- the lines of the box that tells what a job waits with
 abbrev pub waits_lines : Waits → List (List ℕ)

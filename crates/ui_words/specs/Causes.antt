@@ -2,7 +2,9 @@
 use Rattle.std.specs.Prelude.{ℕ, List, ◌++◌, codes}
 use Rattle.std.specs.Fmt.{decimal}
 use Rattle.tree_trait.specs.declared.calls.TreeError.{TreeError}
-use Rattle.tree_trait.specs.declared.calls.TreeError.TheVariants.{Missing, NotFolder, Denied, Exists, IsFolder, NotEmpty, IntoItself, Mounted, CrossMount, NoSpace, Special, Fault, Memory}
+use Rattle.tree_trait.specs.declared.calls.TreeError.TheVariants.{Missing, NotFolder, Denied, Exists}
+use Rattle.tree_trait.specs.declared.calls.TreeError.TheVariants.{IsFolder, NotEmpty, IntoItself, Mounted}
+use Rattle.tree_trait.specs.declared.calls.TreeError.TheVariants.{CrossMount, NoSpace, Special, Fault, Memory}
 use Rattle.resolving.specs.declared.error.ResolveError.{ResolveError}
 use Rattle.resolving.specs.declared.error.ResolveError.TheVariants as resolve
 use Rattle.job_reports.specs.declared.report.Cause.{Cause}
@@ -14,7 +16,8 @@ use Rattle.session_entries.specs.declared.refusal.BeginError.TheVariants.{Full, 
 use Rattle.session_entries.specs.declared.refusal.TypedError.{TypedError}
 use Rattle.session_entries.specs.declared.refusal.TypedError.TheVariants.{BadPattern, BadFormat, BadName}
 use Rattle.session_entries.specs.declared.refusal.Refusal.{Refusal}
-use Rattle.session_entries.specs.declared.refusal.Refusal.TheVariants.{Tree, Read, Resolve, Plan, Begin, Typed}
+use Rattle.session_entries.specs.declared.refusal.Refusal.TheVariants.{Tree, Read, Resolve}
+use Rattle.session_entries.specs.declared.refusal.Refusal.TheVariants.{Plan, Begin, Typed}
 
 -- what is said of a refused call
 abbrev pub cause_words : TreeError → List ℕ
@@ -84,5 +87,6 @@ trouble_words cause.TooDeep = codes "too deep"
 trouble_words cause.PartTaken = codes "no free part name"
 trouble_words cause.TooLong = codes "path too long"
 trouble_words (cause.Unnamed count) = decimal count ++ codes " names can't be shown"
-trouble_words (cause.Changed said got) = codes "said " ++ (decimal said ++ (codes " bytes, got " ++ decimal got))
+trouble_words (cause.Changed said got) =
+    codes "said " ++ (decimal said ++ (codes " bytes, got " ++ decimal got))
 trouble_words cause.Memory = codes "out of memory"

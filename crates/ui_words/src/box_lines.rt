@@ -2,7 +2,16 @@
 ghost use Rattle.std.specs.Prelude.{◌≡◌, ◌∷◌, ◌++◌, [], IfOk};
 ghost use Rattle.std.specs.Option.{option_map_or};
 ghost use Rattle.mc_text.specs.Routes.{path_text as path_text_of};
-ghost use Rattle.ui_words.specs.BoxLines.{delete_lines as lines_of_deletion, folder_line as line_of_folder, link_name_line as line_of_link_name, link_text_line as line_of_link_text, mask_line as line_of_mask, message_lines as lines_of_message, mode_box as box_of_mode, path_lines, plan_path, question_lines as lines_of_question, resolve_path, sizes_line as line_of_sizes, target_line as line_of_target, target_text as text_of_target, target_title as title_of_target, thing_text as text_of_thing, trouble_letter_words, trouble_lines as lines_of_trouble, waits_lines as lines_of_waits};
+ghost use Rattle.ui_words.specs.BoxLines.{delete_lines as lines_of_deletion, folder_line as line_of_folder};
+ghost use Rattle.ui_words.specs.BoxLines.{link_name_line as line_of_link_name};
+ghost use Rattle.ui_words.specs.BoxLines.{link_text_line as line_of_link_text, mask_line as line_of_mask};
+ghost use Rattle.ui_words.specs.BoxLines.{message_lines as lines_of_message, mode_box as box_of_mode};
+ghost use Rattle.ui_words.specs.BoxLines.{path_lines, plan_path, question_lines as lines_of_question};
+ghost use Rattle.ui_words.specs.BoxLines.{resolve_path, sizes_line as line_of_sizes};
+ghost use Rattle.ui_words.specs.BoxLines.{target_line as line_of_target, target_text as text_of_target};
+ghost use Rattle.ui_words.specs.BoxLines.{target_title as title_of_target, thing_text as text_of_thing};
+ghost use Rattle.ui_words.specs.BoxLines.{trouble_letter_words, trouble_lines as lines_of_trouble};
+ghost use Rattle.ui_words.specs.BoxLines.{waits_lines as lines_of_waits};
 
 use crate::carry::Carry;
 use crate::causes::{refusal_text, trouble_text};

@@ -1,6 +1,12 @@
 //! What the boxes' answers to a key come to.
 ghost use Rattle.std.specs.Prelude.{◌≡◌};
-ghost use Rattle.ui_words.specs.BoxKeys.{answer_for_all, answer_reply as answer_reply_of, answer_reply_to as answers_by, closes_message as does_close, delete_letters, delete_reply as delete_reply_of, delete_reply_to as deletes_by, letter_answer, line_reply as line_reply_of, mode_reply as mode_reply_of, question_answer, trouble_answer, trouble_letters as letters_of_trouble, waits_letters as letters_of};
+ghost use Rattle.ui_words.specs.BoxKeys.{answer_for_all, answer_reply as answer_reply_of};
+ghost use Rattle.ui_words.specs.BoxKeys.{answer_reply_to as answers_by, closes_message as does_close};
+ghost use Rattle.ui_words.specs.BoxKeys.{delete_letters, delete_reply as delete_reply_of};
+ghost use Rattle.ui_words.specs.BoxKeys.{delete_reply_to as deletes_by, letter_answer};
+ghost use Rattle.ui_words.specs.BoxKeys.{line_reply as line_reply_of, mode_reply as mode_reply_of};
+ghost use Rattle.ui_words.specs.BoxKeys.{question_answer, trouble_answer};
+ghost use Rattle.ui_words.specs.BoxKeys.{trouble_letters as letters_of_trouble, waits_letters as letters_of};
 
 use job_reports::{Answer, Waits};
 use key_screen::{Base, Key};
@@ -136,7 +142,8 @@ fn trouble_answer(letter: u8) -> Answer
     }
 }
 
-/// What an input line's answer comes to. Until jobs run in the background meta with `b` closes it as Enter does.
+/// What an input line's answer comes to. Until jobs run in the background meta with `b`
+/// closes it as Enter does.
 pub fn line_reply(shut: Shut) -> LineReply
     ensures { result ≡ line_reply_of shut }
 {

@@ -1,6 +1,7 @@
--- How a condition is written (mc(1), "Menu File Edit"; that `&` and `|` stand alone between blanks is own). Its terms are
--- joined from left to right. Bytes: ! 33.
-use Rattle.std.specs.Prelude.{ℕ, zero, suc, ◌==◌, ◌||◌, if◌then◌else◌, List, [], ◌∷◌, length, Option, Some, None, option_map, codes}
+-- How a condition is written (mc(1), "Menu File Edit"; that `&` and `|` stand alone between blanks is own).
+-- Its terms are joined from left to right. Bytes: ! 33.
+use Rattle.std.specs.Prelude.{ℕ, zero, suc, ◌==◌, ◌||◌, if◌then◌else◌, List, []}
+use Rattle.std.specs.Prelude.{◌∷◌, length, Option, Some, None, option_map, codes}
 use Rattle.std.specs.Option.{option_map_or}
 use Rattle.std.specs.Str.{bytes_eq}
 use Rattle.tagging.specs.declared.pattern.PatternKind.{PatternKind}
@@ -31,7 +32,8 @@ turned_sense Turned inner = opposite inner
 -- the sense that leading signs give, among which blanks may stand: each turns it
 abbrev pub sense_of : List ℕ → Sense
 sense_of [] = Plain
-sense_of (byte ∷ text) = if byte == 33 then opposite (sense_of text) else if is_blank byte then sense_of text else Plain
+sense_of (byte ∷ text) =
+    if byte == 33 then opposite (sense_of text) else if is_blank byte then sense_of text else Plain
 
 -- the text behind leading signs and blanks
 abbrev pub behind_signs : List ℕ → List ℕ
@@ -60,7 +62,8 @@ pub record FirstLetter : Type 0 where
 abbrev pub letter_among : List (List ℕ × Letter) → List ℕ → Option FirstLetter
 letter_among [] text = None
 letter_among ((spelled, letter) ∷ others) text =
-    option_map_or (λ rest. Some (record { letter = letter; rest = rest })) (behind_word spelled text) (letter_among others text)
+    option_map_or (λ rest. Some (record { letter = letter; rest = rest })) (behind_word spelled text)
+    (letter_among others text)
 
 abbrev pub letter_of : List ℕ → Option FirstLetter
 letter_of = letter_among letters
@@ -85,7 +88,8 @@ with_test sense rest (Some test) = Some (record { term = record { sense = sense;
 -- the argument runs up to the next blank
 abbrev pub with_argument : PatternKind → Sense → Letter → Option FirstWord → Option FirstTerm
 with_argument kind sense letter None = None
-with_argument kind sense letter (Some argument) = with_test sense argument.rest (test_of kind letter argument.word)
+with_argument kind sense letter (Some argument) =
+    with_test sense argument.rest (test_of kind letter argument.word)
 
 abbrev pub with_letter : PatternKind → Sense → Option FirstLetter → Option FirstTerm
 with_letter kind sense None = None
@@ -97,7 +101,8 @@ first_term kind text = with_letter kind (sense_of text) (letter_of (behind_signs
 
 -- the joint that a word stands for
 abbrev pub joint_of : List ℕ → Option Joint
-joint_of word = if bytes_eq word (codes "&") then Some And else if bytes_eq word (codes "|") then Some Or else None
+joint_of word =
+    if bytes_eq word (codes "&") then Some And else if bytes_eq word (codes "|") then Some Or else None
 
 -- a term before those that stand behind a joint
 abbrev pub behind_joint : Joined → Option Joint → (Joint → Option (List Joined)) → Option (List Joined)
@@ -105,11 +110,14 @@ behind_joint first None others = None
 behind_joint first (Some joint) others = option_map (λ more. first ∷ more) (others joint)
 
 -- a term, and then nothing, or a joint and other terms
-abbrev pub before_others : Joined → Option FirstWord → (Joint → List ℕ → Option (List Joined)) → Option (List Joined)
+abbrev pub before_others : Joined → Option FirstWord → (Joint → List ℕ → Option (List Joined))
+    → Option (List Joined)
 before_others first None others = Some (first ∷ [])
-before_others first (Some word) others = behind_joint first (joint_of word.word) (λ joint. others joint word.rest)
+before_others first (Some word) others =
+    behind_joint first (joint_of word.word) (λ joint. others joint word.rest)
 
-abbrev pub from_term : Joint → Option FirstTerm → (Joint → List ℕ → Option (List Joined)) → Option (List Joined)
+abbrev pub from_term : Joint → Option FirstTerm → (Joint → List ℕ → Option (List Joined))
+    → Option (List Joined)
 from_term joint None others = None
 from_term joint (Some read) others =
     before_others (record { joint = joint; term = read.term }) (first_word read.rest) others

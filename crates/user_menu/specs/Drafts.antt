@@ -22,10 +22,15 @@ with_lines commands (line ∷ lines) = with_lines (with_line commands line) line
 abbrev pub extended_entries : List MenuEntry → List (List ℕ) → List MenuEntry
 extended_entries [] more = []
 extended_entries (entry ∷ []) more =
-    record { conditions = entry.conditions; title = entry.title; commands = with_lines entry.commands more } ∷ []
+    record {
+      conditions = entry.conditions;
+      title = entry.title;
+      commands = with_lines entry.commands more;
+    } ∷ []
 extended_entries (entry ∷ next ∷ entries) more = entry ∷ extended_entries (next ∷ entries) more
 
 -- the entries so far, with what other lines say behind them
 abbrev pub continued_entries : Draft → List LineRead → List MenuEntry
 continued_entries draft lines =
-    extended_entries draft.entries.items (commands_ahead lines) ++ entries_behind (draft.waiting.items ++ conditions_ahead lines) lines
+    extended_entries draft.entries.items (commands_ahead lines)
+    ++ entries_behind (draft.waiting.items ++ conditions_ahead lines) lines

@@ -1,5 +1,7 @@
--- What a test says of two panels and a tree (mc(1), "Menu File Edit"). Bytes: d 100, l 108, n 110, r 114, t 116, x 120.
-use Rattle.std.specs.Prelude.{◌≡◌, ℕ, Bool, false, not, ◌&&◌, ◌==◌, nat_lt, is_none, is_some, if◌then◌else◌, List, ◌∷◌, length, Option, Some, None, bit_and, ⊤}
+-- What a test says of two panels and a tree (mc(1), "Menu File Edit"). Bytes: d 100, l 108, n
+-- 110, r 114, t 116, x 120.
+use Rattle.std.specs.Prelude.{◌≡◌, ℕ, Bool, false, not, ◌&&◌, ◌==◌, nat_lt, is_none, is_some}
+use Rattle.std.specs.Prelude.{if◌then◌else◌, List, ◌∷◌, length, Option, Some, None, bit_and, ⊤}
 use Rattle.std.specs.List.{list_any}
 use Rattle.std.specs.Option.{option_map_or}
 use Rattle.mc_text.specs.declared.kind.Kind.{Kind}
@@ -43,12 +45,14 @@ entry_route folder text =
 
 -- the path that an argument asks for
 abbrev pub route_asked : Route → List ℕ → Option Route
-route_asked folder argument = if begins_with_slash argument then absolute_route argument else entry_route folder argument
+route_asked folder argument =
+    if begins_with_slash argument then absolute_route argument else entry_route folder argument
 
 -- the thing at a path can be looked at, and somebody may run it
 abbrev pub stands_runnable : FileSystem → Route → Bool
 stands_runnable s path =
-    is_none (refusal_of s (Stat path)) && is_runnable (node s (found_node s path)).kind (node s (found_node s path)).mode
+    is_none (refusal_of s (Stat path))
+    && is_runnable (node s (found_node s path)).kind (node s (found_node s path)).mode
 
 -- the argument leads to a program
 abbrev pub is_program : FileSystem → Route → List ℕ → Bool

@@ -1,5 +1,6 @@
 -- A menu's entries and its first fault (mc(1), "Menu File Edit"; the refusals are own).
-use Rattle.std.specs.Prelude.{◌≡◌, ℕ, ◌+◌, Bool, true, false, if◌then◌else◌, List, [], ◌∷◌, Option, Some, None}
+use Rattle.std.specs.Prelude.{◌≡◌, ℕ, ◌+◌, Bool, true, false, if◌then◌else◌}
+use Rattle.std.specs.Prelude.{List, [], ◌∷◌, Option, Some, None}
 use Rattle.std.specs.List.{join_with_byte}
 use Rattle.std.specs.Str.{is_utf8}
 use Rattle.std.specs.Str.Lossy.{utf8_valid_len}
@@ -12,7 +13,8 @@ use Rattle.user_menu.specs.declared.error.MenuError.{MenuError}
 use Rattle.user_menu.specs.declared.error.MenuError.TheVariants as fault
 use Rattle.user_menu.specs.declared.line.Asked as one
 use Rattle.user_menu.specs.declared.line.LineRead.{LineRead}
-use Rattle.user_menu.specs.declared.line.LineRead.TheVariants.{Passed, Command, Asked, Patterns, Title, BadCondition}
+use Rattle.user_menu.specs.declared.line.LineRead.TheVariants.{Passed, Command, Asked}
+use Rattle.user_menu.specs.declared.line.LineRead.TheVariants.{Patterns, Title, BadCondition}
 
 -- the kind of the patterns at the begin
 abbrev pub kind_first : Bool → PatternKind
@@ -62,8 +64,8 @@ abbrev pub joined_lines : List (List ℕ) → Option (List ℕ)
 joined_lines [] = None
 joined_lines (line ∷ lines) = Some (join_with_byte 10 (line ∷ lines))
 
--- each title with the conditions that stand between the title before and it, and the commands up to the next one;
--- `conditions` are those of the next title
+-- each title with the conditions that stand between the title before and it, and the commands up to the
+-- next one; `conditions` are those of the next title
 abbrev pub entries_behind : (conditions : List one.Asked) → List LineRead → List MenuEntry
 entries_behind conditions [] = []
 entries_behind conditions (Passed ∷ lines) = entries_behind conditions lines

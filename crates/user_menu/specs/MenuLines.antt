@@ -10,7 +10,8 @@ use Rattle.user_menu.specs.declared.condition.Joined.{Joined}
 use Rattle.user_menu.specs.declared.line.Purpose.{Purpose}
 use Rattle.user_menu.specs.declared.line.Purpose.TheVariants as is_for
 use Rattle.user_menu.specs.declared.line.LineRead.{LineRead}
-use Rattle.user_menu.specs.declared.line.LineRead.TheVariants.{Passed, Command, Asked, Patterns, Title, BadCondition}
+use Rattle.user_menu.specs.declared.line.LineRead.TheVariants.{Passed, Command, Asked}
+use Rattle.user_menu.specs.declared.line.LineRead.TheVariants.{Patterns, Title, BadCondition}
 
 -- a condition, if there is one
 abbrev pub asked_if : Purpose → Option (List Joined) → LineRead
@@ -24,7 +25,8 @@ condition_line kind purpose text = asked_if purpose (condition_of kind text)
 -- the condition behind the marks that say what it is for; a question mark there is skipped
 abbrev pub asked_line : PatternKind → Purpose → List ℕ → LineRead
 asked_line kind purpose text =
-    option_map_or (condition_line kind purpose) (behind_word (codes "?") text) (condition_line kind purpose text)
+    option_map_or (condition_line kind purpose) (behind_word (codes "?") text)
+    (condition_line kind purpose text)
 
 -- a line that sets the kind of the patterns, or else a title
 abbrev pub title_line : List ℕ → LineRead
@@ -34,7 +36,8 @@ title_line line =
 
 -- the marks of a condition, and what it is for
 abbrev pub marks : List (List ℕ × Purpose)
-marks = (codes "+=", is_for.Both) ∷ (codes "=+", is_for.Both) ∷ (codes "+", is_for.Shown) ∷ (codes "=", is_for.Default) ∷ []
+marks = (codes "+=", is_for.Both) ∷ (codes "=+", is_for.Both) ∷ (codes "+", is_for.Shown)
+    ∷ (codes "=", is_for.Default) ∷ []
 
 -- a line by the first of some marks with which it begins, or else another line
 abbrev pub by_mark : PatternKind → List (List ℕ × Purpose) → List ℕ → LineRead
@@ -46,8 +49,8 @@ by_mark kind ((mark, purpose) ∷ others) line =
 abbrev pub word_line : PatternKind → List ℕ → LineRead
 word_line kind line = by_mark kind marks line
 
--- what a line says where patterns are of this kind: an empty one and a comment nothing, one that begins with a blank or
--- tab a command
+-- what a line says where patterns are of this kind: an empty one and a comment nothing, one that begins
+-- with a blank or tab a command
 abbrev pub reading_of : PatternKind → List ℕ → LineRead
 reading_of kind line =
     if length line == 0 then Passed else

@@ -1,5 +1,6 @@
 -- The entries of a menu that are shown, and the default among them (mc(1), "Menu File Edit").
-use Rattle.std.specs.Prelude.{ℕ, ◌+◌, Bool, true, false, if◌then◌else◌, List, [], ◌∷◌, ◌++◌, map, Option, Some, None, unwrap_or}
+use Rattle.std.specs.Prelude.{ℕ, ◌+◌, Bool, true, false, if◌then◌else◌, List}
+use Rattle.std.specs.Prelude.{[], ◌∷◌, ◌++◌, map, Option, Some, None, unwrap_or}
 use Rattle.std.specs.List.{AllByRecursion}
 use Rattle.std.specs.Option.{option_or, option_map_or}
 use Rattle.tree_trait.specs.declared.file_system.FileSystem.{FileSystem}
@@ -30,7 +31,8 @@ is_for purpose.Both asks.Default = true
 abbrev pub last_asked : Question → List Asked → Option (List Joined)
 last_asked question [] = None
 last_asked question (asked ∷ more) =
-    option_or (last_asked question more) (if is_for asked.purpose question then Some asked.condition else None)
+    option_or (last_asked question more) (if is_for asked.purpose question
+    then Some asked.condition else None)
 
 -- an entry without a condition is shown, and isn't the default
 abbrev pub is_unasked : Question → Bool
@@ -40,7 +42,8 @@ is_unasked asks.Default = false
 -- the answer to a question of an entry
 abbrev pub answer_of : FileSystem → Fact → Fact → Question → MenuEntry → Bool
 answer_of s here other question entry =
-    option_map_or (λ condition. holds_in s condition here other) (last_asked question entry.conditions) (is_unasked question)
+    option_map_or (λ condition. holds_in s condition here other) (last_asked question entry.conditions)
+    (is_unasked question)
 
 -- how an entry stands
 abbrev pub standing_of : FileSystem → Fact → Fact → MenuEntry → Standing

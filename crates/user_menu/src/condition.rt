@@ -13,8 +13,9 @@ pub enum Panel {
     There,
 }
 
-/// What a term tests: that a pattern finds the current name, or the folder's path; that the current thing has one of
-/// the types with these letters; that a name here or an absolute path leads to a program; or nothing that ever holds.
+/// What a term tests: that a pattern finds the current name, or the folder's path; that the current thing
+/// has one of the types with these letters; that a name here or an absolute path leads to a program; or
+/// nothing that ever holds.
 #[derive(Drop)]
 pub enum Test {
     Name(Panel, Pattern),

@@ -2,8 +2,8 @@
 use mc_text::NoMemory;
 use thiserror::Error;
 
-/// Why a file holds no menu. `NotText` has the position of the first byte that is no UTF-8, the others a line, counted
-/// from 1: of a command before any title, of a condition that is none.
+/// Why a file holds no menu. `NotText` has the position of the first byte that is no UTF-8, the others a
+/// line, counted from 1: of a command before any title, of a condition that is none.
 #[derive(Clone, Copy, Debug, Drop, Error, PartialEq, Eq)]
 pub enum MenuError {
     #[error("no text at byte {0}")]

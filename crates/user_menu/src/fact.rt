@@ -1,7 +1,8 @@
 //! What conditions are asked of.
 use mc_text::{Kind, Path, Text};
 
-/// A panel: the name of its current thing, with its kind and mode, the panel's folder, and whether some name is tagged.
+/// A panel: the name of its current thing, with its kind and mode, the panel's folder, and
+/// whether some name is tagged.
 #[derive(Debug, Drop)]
 pub struct Fact {
     pub name: Text,

@@ -1,7 +1,9 @@
 //! A menu's file, read.
-ghost use Rattle.std.specs.Prelude.{◌≡◌, ◌≢◌, ℕ, ◌+◌, ◌<◌, [], ◌∷◌, ◌++◌, List, Some, None, false, vec_len, IfOk, IfErr, OnOk};
+ghost use Rattle.std.specs.Prelude.{◌≡◌, ◌≢◌, ℕ, ◌+◌, ◌<◌, [], ◌∷◌, ◌++◌, List};
+ghost use Rattle.std.specs.Prelude.{Some, None, false, vec_len, IfOk, IfErr, OnOk};
 ghost use Rattle.user_menu.specs.declared.line.LineRead.{LineRead};
-ghost use Rattle.user_menu.specs.MenuFiles.{IsMenuFile, menu_fault, fault_from, kind_first, kind_after, readings, entries_of};
+ghost use Rattle.user_menu.specs.MenuFiles.{IsMenuFile, menu_fault, fault_from};
+ghost use Rattle.user_menu.specs.MenuFiles.{kind_first, kind_after, readings, entries_of};
 ghost use Rattle.user_menu.specs.Drafts.{has_entry, extended_entries, continued_entries};
 
 use crate::error::MenuError;
@@ -13,8 +15,8 @@ use std::{mem, str};
 use tagging::PatternKind;
 use text_scan::first_line;
 
-/// Reads a menu. Its patterns are shell patterns or regular expressions, until a line of the file says which. The first
-/// fault decides: first bytes that are no UTF-8, then the first line that is wrong.
+/// Reads a menu. Its patterns are shell patterns or regular expressions, until a line of the file says
+/// which. The first fault decides: first bytes that are no UTF-8, then the first line that is wrong.
 pub fn parse_menu(alloc: Global, bytes: &[u8], shell_patterns: bool) -> Result<Menu, MenuError>
     ensures read { IfOk result (λ menu. IsMenuFile shell_patterns bytes.now menu) }
     ensures refused { IfErr result (λ e.

@@ -18,7 +18,8 @@ use std::convert::AsStr;
 use tagging::Pattern;
 use tree_trait::{ReadTree, TreeError};
 
-/// Whether a condition holds of two panels: its terms are asked one by one, and then taken from left to right.
+/// Whether a condition holds of two panels: its terms are asked one by one, and then
+/// taken from left to right.
 pub fn holds<T: ReadTree>(
     alloc: Global,
     tree: &mut T,

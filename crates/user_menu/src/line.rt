@@ -24,8 +24,8 @@ pub struct Asked {
     pub condition: Condition,
 }
 
-/// What a line says: nothing, a command, a condition, the kind of the patterns from there on, a title, or what has to be
-/// a condition and is none.
+/// What a line says: nothing, a command, a condition, the kind of the patterns from there on, a title, or
+/// what has to be a condition and is none.
 #[derive(Drop)]
 pub enum LineRead {
     Passed,

@@ -1,5 +1,6 @@
 //! A menu, its entries, and what is shown of them.
-ghost use Rattle.std.specs.Prelude.{◌≡◌, ◌==◌, ◌<◌, ◌∷◌, [], ◌++◌, None, Some, IfOk, OnOk, length, option_map, slice_get};
+ghost use Rattle.std.specs.Prelude.{◌≡◌, ◌==◌, ◌<◌, ◌∷◌, [], ◌++◌, None, Some};
+ghost use Rattle.std.specs.Prelude.{IfOk, OnOk, length, option_map, slice_get};
 ghost use Rattle.user_menu.specs.Menus.{with_line, command_text};
 
 use crate::line::Asked;
@@ -148,7 +149,8 @@ impl Menu {
     }
 }
 
-/// The entries that are shown, in their order, and the one that is the default, each by its number from 0 in the menu.
+/// The entries that are shown, in their order, and the one that is the default, each by its
+/// number from 0 in the menu.
 #[derive(Debug, Drop)]
 pub struct Shown {
     pub entries: Places,

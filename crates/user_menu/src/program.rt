@@ -10,8 +10,8 @@ use mc_text::{Name, NameError, NoMemory, Path, PathError};
 use std::alloc::Global;
 use tree_trait::{ReadTree, TreeError};
 
-/// Whether an argument, a name in this folder or an absolute path, leads to a file that somebody may run. Links aren't
-/// followed.
+/// Whether an argument, a name in this folder or an absolute path, leads to a file that somebody may
+/// run. Links aren't followed.
 pub fn is_program<T: ReadTree>(
     alloc: Global,
     tree: &mut T,

@@ -14,8 +14,8 @@ use mc_text::NoMemory;
 use std::alloc::Global;
 use tree_trait::{ReadTree, TreeError};
 
-/// Which entries of a menu are shown, opened in the panel `here`, and the first of these that is to be the default. The
-/// tree is looked at where a condition asks for a program.
+/// Which entries of a menu are shown, opened in the panel `here`, and the first of these that is to be the
+/// default. The tree is looked at where a condition asks for a program.
 pub fn shown<T: ReadTree>(
     alloc: Global,
     tree: &mut T,

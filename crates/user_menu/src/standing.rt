@@ -3,7 +3,8 @@ ghost use Rattle.std.specs.Prelude.{◌≡◌, ◌⊎◌, IfOk, IfErr, option_co
 ghost use Rattle.tree_trait.specs.declared.file_system.FileSystem.{FileSystem};
 ghost use Rattle.tree_trait.specs.Answers.{HasCause};
 ghost use Rattle.user_menu.specs.Facts.{IsAskedOf, AsksNoTree};
-ghost use Rattle.user_menu.specs.ShownEntries.{is_for, last_asked, is_unasked, answer_of, standing_of, EachTestAsked};
+ghost use Rattle.user_menu.specs.ShownEntries.{is_for, last_asked, is_unasked};
+ghost use Rattle.user_menu.specs.ShownEntries.{answer_of, standing_of, EachTestAsked};
 
 use crate::choosing::Standing;
 use crate::condition::Condition;
@@ -21,7 +22,8 @@ pub enum Question {
     Default,
 }
 
-/// How an entry stands: it is shown where it doesn't say when, and isn't the default where it doesn't say when.
+/// How an entry stands: it is shown where it doesn't say when, and isn't the default
+/// where it doesn't say when.
 pub fn standing_of<T: ReadTree>(
     alloc: Global,
     tree: &mut T,

@@ -1,6 +1,7 @@
 //! One term of a condition: signs, a letter, an argument.
 ghost use Rattle.std.specs.Prelude.{◌≡◌, ◌<◌, length, IfSome, IfOk, MatchOption};
-ghost use Rattle.user_menu.specs.Conditions.{turned_sense, opposite, sense_of, behind_signs, letter_of, test_of, first_term};
+ghost use Rattle.user_menu.specs.Conditions.{turned_sense, opposite, sense_of};
+ghost use Rattle.user_menu.specs.Conditions.{behind_signs, letter_of, test_of, first_term};
 ghost use Rattle.user_menu.specs.TermViews.{letter_view, term_view};
 
 use crate::condition::{Panel, Sense, Term, Test};
@@ -20,8 +21,8 @@ pub enum Letter {
     Never,
 }
 
-/// Reads the term with which a text begins. Its patterns are of this kind. Gives the text behind it too, or nothing where
-/// no term stands there.
+/// Reads the term with which a text begins. Its patterns are of this kind. Gives the text behind it too, or
+/// nothing where no term stands there.
 pub fn read_term(
     alloc: Global,
     kind: PatternKind,
@@ -124,7 +125,8 @@ fn read_letter(text: &str) -> Option<(Letter, &str)>
     }
 }
 
-/// The test of a letter with its argument, or nothing where that has to be a pattern of this kind and is none.
+/// The test of a letter with its argument, or nothing where that has to be a pattern
+/// of this kind and is none.
 fn read_test(
     alloc: Global,
     kind: PatternKind,

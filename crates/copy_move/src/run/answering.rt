@@ -1,20 +1,23 @@
 //! What an answer to a question or a trouble, an order and the close of the session make of a job.
 ghost use Rattle.std.specs.Prelude.{◌≡◌, Err, Ok, OnErr, OnOk, Some, false};
 ghost use Rattle.job_answers.specs.Answers.{answer_result as by_table};
-ghost use Rattle.copy_move.specs.Jobs.{MayAnswer, answered_job, closed_job, ended_course, skipping_by, waiting_on, waits_on};
+ghost use Rattle.copy_move.specs.Jobs.{MayAnswer, answered_job, closed_job};
+ghost use Rattle.copy_move.specs.Jobs.{ended_course, skipping_by, waiting_on, waits_on};
 
 use super::{Course, Halt, Run};
 use job_answers::{Then, Waiting, then_after};
 use job_reports::{Answer, AnswerError, Cause, Ending};
 
 impl Run {
-    /// Answers the question or the trouble, by the table of what may be answered. `NotAsked` where the job waits for none, `WrongAnswer`
-    /// where it is none to what the job waits with, as a skip at a barrier; the job is as it was then.
+    /// Answers the question or the trouble, by the table of what may be answered. `NotAsked` where the job
+    /// waits for none, `WrongAnswer` where it is none to what the job waits with, as a skip at a barrier;
+    /// the job is as it was then.
     pub fn answer(&mut self, answer: Answer) -> Result<(), AnswerError>
         ensures taken { OnOk result (self.new ≡ answered_job answer self.old) }
         ensures fits { OnOk result (MayAnswer self.old answer) }
         ensures not_asked { result ≡ Err AnswerError.NotAsked → waits_on self.old.course ≡ false }
-        ensures wrong { result ≡ Err AnswerError.WrongAnswer → by_table (waiting_on self.old.course) answer ≡ Err AnswerError.WrongAnswer }
+        ensures wrong { result ≡ Err AnswerError.WrongAnswer
+            → by_table (waiting_on self.old.course) answer ≡ Err AnswerError.WrongAnswer }
         ensures same { OnErr result (self.new ≡ self.old) }
     {
         let next = then_after(self.waiting(), answer)?;
@@ -88,7 +91,8 @@ impl Run {
         self.course = Course::GoesOn;
     }
 
-    /// What stands next is to be left as it is, and with `SkipAll` all that meets a trouble of the same kind later.
+    /// What stands next is to be left as it is, and with `SkipAll` all that meets a
+    /// trouble of the same kind later.
     fn pass_over(&mut self, answer: Answer)
         requires table { by_table (waiting_on self.old.course) answer ≡ Ok Then.Skips }
         ensures { self.new ≡ answered_job answer self.old }

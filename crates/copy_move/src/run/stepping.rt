@@ -1,5 +1,5 @@
-//! What a step of a job does, by its course: a piece of its work, the sync of what an ended job left dirty, a skip, or one
-//! of its last steps.
+//! What a step of a job does, by its course: a piece of its work, the sync of what an ended job left dirty,
+//! a skip, or one of its last steps.
 ghost use Rattle.std.specs.Prelude.{◌≡◌, true};
 ghost use Rattle.tree_trait.specs.Change.{current};
 ghost use Rattle.tree_trait.specs.Answers.{IfKnown};
@@ -47,8 +47,8 @@ impl Run {
         }
     }
 
-    /// The step of a job that has changed nothing yet: it syncs what an ended job left dirty there, or may make its first change where
-    /// there is nothing.
+    /// The step of a job that has changed nothing yet: it syncs what an ended job left dirty there, or may
+    /// make its first change where there is nothing.
     fn begin<T: Tree, P: PartTest>(
         &mut self,
         alloc: Global,
@@ -133,8 +133,10 @@ impl Run {
         dirty: &mut Dirty,
     ) -> StepResult
         requires course { self.old.course ≡ Course.GoesOn }
-        requires settled { is_fresh self.old.work ≡ true → IfKnown (T.contents tree.old) (λ log. NoneOwed (current log) self.old.work dirty.old) }
-        requires cleared { is_fresh self.old.work ≡ true → IfKnown (T.contents tree.old) (λ log. NoneForFolder (current log) self.old.work dirty.old) }
+        requires settled { is_fresh self.old.work ≡ true
+            → IfKnown (T.contents tree.old) (λ log. NoneOwed (current log) self.old.work dirty.old) }
+        requires cleared { is_fresh self.old.work ≡ true
+            → IfKnown (T.contents tree.old) (λ log. NoneForFolder (current log) self.old.work dirty.old) }
         ensures steps { OwnStep (λ path. P.is_free parts.now path ≡ true) (record {
           old = self.old;
           new = self.new;

@@ -1,9 +1,11 @@
 //! Keys, looks and searches: what a session does for its user.
-ghost use Rattle.std.specs.Prelude.{◌≡◌, ◌+◌, ◌≤◌, ◌<◌, ◌∷◌, ◌++◌, [], ℕ, List, true, false, IsTrue, IfErr, IfOk, IsOk, OnOk, OnErr, Ok, Err, Some, None};
+ghost use Rattle.std.specs.Prelude.{◌≡◌, ◌+◌, ◌≤◌, ◌<◌, ◌∷◌, ◌++◌, [], ℕ, List, true, false};
+ghost use Rattle.std.specs.Prelude.{IsTrue, IfErr, IfOk, IsOk, OnOk, OnErr, Ok, Err, Some, None};
 ghost use Rattle.copy_move.specs.Told.{IsReady};
 ghost use Rattle.mc_desk.specs.Standings.{awaited_by, is_quit};
 ghost use Rattle.mc_desk.specs.Tallies.{can_step, keys_in};
-ghost use Rattle.mc_desk.specs.Desks.{BlamesScreen, CountsByte, FailsClosed, IsUncut, ShowsDesk, is_over, seeks, HasTaken, TakesByte, KeepsKeys};
+ghost use Rattle.mc_desk.specs.Desks.{BlamesScreen, CountsByte, FailsClosed, IsUncut, ShowsDesk};
+ghost use Rattle.mc_desk.specs.Desks.{is_over, seeks, HasTaken, TakesByte, KeepsKeys};
 ghost use Rattle.mc_ui.specs.Seekings.{is_seeking};
 ghost use Rattle.mc_desk.specs.Searches.{steps_ahead};
 
@@ -22,9 +24,9 @@ use std::alloc::Global;
 use tree_trait::{Sink, SinkError, Spawner, Tree};
 
 impl<N: Tag, T: Tree, S: Sink, P: Spawner> Session<N, T, S, P> {
-    /// Takes a byte and works the keys that it completes; the reply is that of the last. Each is drawn. Where it finds no
-    /// memory before the byte is taken, nothing changes; each other error closes the session. One that is closed, or whose end
-    /// was asked, takes no byte and answers `Quit`.
+    /// Takes a byte and works the keys that it completes; the reply is that of the last. Each is drawn.
+    /// Where it finds no memory before the byte is taken, nothing changes; each other error closes the
+    /// session. One that is closed, or whose end was asked, takes no byte and answers `Quit`.
     pub fn byte(&mut self, alloc: Global, byte: u8, now: u64) -> Result<DeskReply, DeskError>
         requires looked { self.old.tally.due ≡ None }
         requires sought { seeks self.old ≡ false }
@@ -70,8 +72,9 @@ impl<N: Tag, T: Tree, S: Sink, P: Spawner> Session<N, T, S, P> {
         }
     }
 
-    /// Takes up what the job did, and draws. After the job's end the panels are read again, and a message tells of it where memory
-    /// ran out or a part was left. Where nothing is due all stays as it is: so in a session that is closed, or whose end was asked.
+    /// Takes up what the job did, and draws. After the job's end the panels are read again, and a message
+    /// tells of it where memory ran out or a part was left. Where nothing is due all stays as it is: so in
+    /// a session that is closed, or whose end was asked.
     pub fn look(&mut self, alloc: Global) -> Result<(), DeskError>
         requires uncut { IsUncut self.old }
         ensures shows { OnOk result (self.new.tally.closed ≡ false → ShowsDesk self.new) }
@@ -119,8 +122,9 @@ impl<N: Tag, T: Tree, S: Sink, P: Spawner> Session<N, T, S, P> {
         Ok(())
     }
 
-    /// Makes steps of the search that goes on, a hundred at most, and draws. Where none goes on all stays as it is. Where memory is wanting
-    /// for a step the session is closed, once what was found by then is drawn.
+    /// Makes steps of the search that goes on, a hundred at most, and draws. Where none goes on
+    /// all stays as it is. Where memory is wanting for a step the session is closed, once what
+    /// was found by then is drawn.
     pub fn seek(&mut self, alloc: Global) -> Result<(), DeskError>
         requires looked { self.old.tally.due ≡ None }
         requires uncut { IsUncut self.old }
@@ -130,7 +134,8 @@ impl<N: Tag, T: Tree, S: Sink, P: Spawner> Session<N, T, S, P> {
         ensures dirty { self.new.dirty ≡ self.old.dirty }
         ensures screen_failed { BlamesScreen result self.new.out.failed }
         ensures looked { OnOk result (self.new.tally.due ≡ None) }
-        ensures nearer { OnOk result (seeks self.old ≡ true → steps_ahead self.new.screen < steps_ahead self.old.screen) }
+        ensures nearer { OnOk result (seeks self.old ≡ true
+            → steps_ahead self.new.screen < steps_ahead self.old.screen) }
         ensures over { seeks self.old ≡ false → self.new ≡ self.old }
         ensures fails { IfErr result (λ error. FailsClosed error self.old self.new) }
         ensures unclosed { OnOk result (self.new.tally.closed ≡ self.old.tally.closed) }

@@ -25,8 +25,8 @@ use std::alloc::Global;
 use tree_trait::{Sink, Spawner, Tree};
 
 impl<N: Tag, T: Tree, S: Sink, P: Spawner> Session<N, T, S, P> {
-    /// Closes the session: no more keys are taken, and a job that waits for an answer is aborted. It takes no memory. A closed
-    /// one stays as it is.
+    /// Closes the session: no more keys are taken, and a job that waits for an answer is aborted. It takes
+    /// no memory. A closed one stays as it is.
     pub fn close(&mut self)
         ensures closed { self.new.tally.closed ≡ true }
         ensures screen { self.new.screen ≡ self.old.screen }
@@ -43,18 +43,22 @@ impl<N: Tag, T: Tree, S: Sink, P: Spawner> Session<N, T, S, P> {
         self.standing.close();
     }
 
-    /// Makes one step of the job, if it is ready: `Did` where an entry was added. Where a source is finished, the job goes on with the next one, and
-    /// that is what the entry tells. Without memory for the entry no call of the tree is made, and the job ends by the entry for which room was kept.
+    /// Makes one step of the job, if it is ready: `Did` where an entry was added. Where a source is
+    /// finished, the job goes on with the next one, and that is what the entry tells. Without memory for
+    /// the entry no call of the tree is made, and the job ends by the entry for which room was kept.
     pub fn step(&mut self, alloc: Global, seat: u32) -> StepReply
         requires main { seat ≡ 0 }
         ensures screen { self.new.screen ≡ self.old.screen }
         ensures keys { KeepsKeys self.old self.new }
         ensures dirty { MovesDirty self.old.job self.new.newest self.old.dirty self.new.dirty }
-        ensures same { (self.new.tally.closed ≡ self.old.tally.closed) × (self.new.tally.due ≡ self.old.tally.due) }
+        ensures same { (self.new.tally.closed ≡ self.old.tally.closed)
+            × (self.new.tally.due ≡ self.old.tally.due) }
         ensures quit { self.new.quit ≡ self.old.quit }
-        ensures reply { result ≡ (if can_step self.old.tally.job then StepReply.Did else idle_reply self.old.tally.closed) }
+        ensures reply { result
+            ≡ (if can_step self.old.tally.job then StepReply.Did else idle_reply self.old.tally.closed) }
         ensures out { self.new.out ≡ self.old.out }
-        ensures nearer { self.old.tally.closed ≡ true → IsSome self.old.job → rank_of self.new < rank_of self.old }
+        ensures nearer { self.old.tally.closed ≡ true → IsSome self.old.job
+            → rank_of self.new < rank_of self.old }
         ensures worked { IsReady self.old.job → rank_of self.new < rank_of self.old }
     {
         let Some(mut job) = self.standing.job.take() else {
@@ -113,8 +117,10 @@ impl<N: Tag, T: Tree, S: Sink, P: Spawner> Session<N, T, S, P> {
 
     /// Ends the session: it is closed, and its job stepped to the end.
     pub fn end(self, alloc: Global) -> Ended<T, S, P>
-        ensures session { EndsSession N.start N.opening N.tree_faults (reverse result.history.entries) (T.contents result.tree)
-            (record { bytes = put_since N.given (S.given result.screen); is_cut = self.out.put.is_cut }) result.quit }
+        ensures session { EndsSession N.start N.opening N.tree_faults (reverse result.history.entries)
+            (T.contents result.tree)
+            (record { bytes = put_since N.given (S.given result.screen); is_cut = self.out.put.is_cut })
+            result.quit }
         ensures given { HasGiven N.given (put_since N.given (S.given result.screen)) (S.given result.screen) }
         ensures traced { IsTracedTo N.opening (T.contents result.tree) (reverse result.history.entries) }
         ensures idle { live_job (reverse result.history.entries) ≡ None }
@@ -124,8 +130,10 @@ impl<N: Tag, T: Tree, S: Sink, P: Spawner> Session<N, T, S, P> {
         ensures lost { result.lost ≡ has_lost (reverse result.history.entries) }
         ensures quit { result.quit ≡ self.quit }
         ensures screen { Blames result.failed N.sink_faults (S.fault_count result.screen) }
-        ensures faults { faults_in N.tree_faults (reverse result.history.entries) ≤ T.fault_count result.tree }
-        ensures commands { RanNothing N.runs (P.runs result.spawner) N.spawner_faults (P.fault_count result.spawner) }
+        ensures faults { faults_in N.tree_faults (reverse result.history.entries)
+            ≤ T.fault_count result.tree }
+        ensures commands { RanNothing N.runs (P.runs result.spawner) N.spawner_faults
+            (P.fault_count result.spawner) }
     {
         let mut session = self;
         session.close();
@@ -162,7 +170,8 @@ impl<N: Tag, T: Tree, S: Sink, P: Spawner> Session<N, T, S, P> {
     }
 }
 
-/// Puts a job where none stands. It is a function of its own, since what an assignment lets go of is looked at on each way out, and a job may hold much.
+/// Puts a job where none stands. It is a function of its own, since what an assignment lets go of is looked
+/// at on each way out, and a job may hold much.
 fn put_back(place: &mut Option<Run>, job: Option<Run>)
     ensures { place.new ≡ job }
 {

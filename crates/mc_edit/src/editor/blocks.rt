@@ -1,5 +1,6 @@
 //! The commands on blocks.
-ghost use Rattle.std.specs.Prelude.{◌≡◌, ◌≢◌, ◌<◌, ◌≤◌, ◌++◌, IfSome, IfOk, slice_range, IfErr, OnOk, OnErr, Ok, Err, length};
+ghost use Rattle.std.specs.Prelude.{◌≡◌, ◌≢◌, ◌<◌, ◌≤◌, ◌++◌, IfSome, IfOk};
+ghost use Rattle.std.specs.Prelude.{slice_range, IfErr, OnOk, OnErr, Ok, Err, length};
 ghost use Rattle.mc_edit.specs.declared.error.EditError.TheVariants.{Memory};
 ghost use Rattle.mc_edit.specs.Commands.{block_copied, block_moved, block_deleted};
 ghost use Rattle.mc_edit.specs.Edits.{block_span};

@@ -20,7 +20,8 @@ impl Editor {
         ensures done { OnOk result (text_at_found (first_place self.old.text.bytes what.now
             (self.old.text.point + 1)) self.old ≡ Ok self.new) }
         ensures refused { IfErr result (λ error.
-            text_at_found (first_place self.old.text.bytes what.now (self.old.text.point + 1)) self.old ≡ Err error) }
+            text_at_found (first_place self.old.text.bytes what.now (self.old.text.point + 1)) self.old
+            ≡ Err error) }
         ensures same { OnErr result (self.new ≡ self.old) }
     {
         let Some(at) = place_behind(&self.text, self.point, slice_of(what)) else {
@@ -45,8 +46,8 @@ impl Editor {
         Ok(())
     }
 
-    /// Each place from the point on gives way, and the point stands behind the last of them. The size is measured
-    /// before any of it is built.
+    /// Each place from the point on gives way, and the point stands behind the last of them. The size is
+    /// measured before any of it is built.
     pub(super) fn replace_all(
         &mut self,
         alloc: Global,

@@ -10,8 +10,8 @@ use mc_text::NoMemory;
 use std::alloc::Global;
 
 impl Editor {
-    /// Carries commands out in their order; a refused one changes nothing, and the next one follows. It stops where memory
-    /// is short.
+    /// Carries commands out in their order; a refused one changes nothing, and the next one follows. It
+    /// stops where memory is short.
     pub fn commands(&mut self, alloc: Global, commands: &[EditCmd]) -> Result<(), NoMemory>
         ensures done { OnOk result (self.new ≡ after_commands commands.now self.old) }
     {

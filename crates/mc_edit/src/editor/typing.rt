@@ -48,7 +48,8 @@ impl Editor {
         ensures done { OnOk result (removed_text self.old
             (left_of self.old.text.bytes self.old.text.point) self.old.text.point ≡ Ok self.new) }
         ensures refused { IfErr result (λ error. error ≢ Memory →
-            removed_text self.old (left_of self.old.text.bytes self.old.text.point) self.old.text.point ≡ Err error) }
+            removed_text self.old (left_of self.old.text.bytes self.old.text.point) self.old.text.point
+            ≡ Err error) }
         ensures same { OnErr result (self.new ≡ self.old) }
     {
         let from = left_of(alloc, &self.text, self.point)?;
@@ -59,7 +60,8 @@ impl Editor {
         ensures done { OnOk result (removed_text self.old self.old.text.point
             (right_of self.old.text.bytes self.old.text.point) ≡ Ok self.new) }
         ensures refused { IfErr result (λ error. error ≢ Memory →
-            removed_text self.old self.old.text.point (right_of self.old.text.bytes self.old.text.point) ≡ Err error) }
+            removed_text self.old self.old.text.point (right_of self.old.text.bytes self.old.text.point)
+            ≡ Err error) }
         ensures same { OnErr result (self.new ≡ self.old) }
     {
         let to = right_of(alloc, &self.text, self.point)?;
@@ -110,7 +112,8 @@ impl Editor {
         ensures done { OnOk result (removed_text self.old self.old.text.point
             (line_end self.old.text.bytes self.old.text.point) ≡ Ok self.new) }
         ensures refused { IfErr result (λ error. error ≢ Memory →
-            removed_text self.old self.old.text.point (line_end self.old.text.bytes self.old.text.point) ≡ Err error) }
+            removed_text self.old self.old.text.point (line_end self.old.text.bytes self.old.text.point)
+            ≡ Err error) }
         ensures same { OnErr result (self.new ≡ self.old) }
     {
         let to = line_end(&self.text, self.point);

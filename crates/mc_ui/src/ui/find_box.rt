@@ -1,4 +1,5 @@
-//! Things are sought: how the box opens, and its keys. It was taken out while it is worked in, and is put back where it stays.
+//! Things are sought: how the box opens, and its keys. It was taken out while it is worked in, and is
+//! put back where it stays.
 ghost use Rattle.std.specs.Prelude.{◌≡◌, None, OnErr, OnOk, IfOk};
 ghost use Rattle.ui_plans.specs.Reading.{ReadsTree};
 ghost use Rattle.mc_ui.specs.declared.asks.Ask.{Ask};
@@ -50,12 +51,14 @@ impl Ui {
         key: Key,
     ) -> Result<KeyAct, NoMemory>
         requires clear { self.old.over ≡ NoBox }
-        ensures leads { IfOk result (λ act. FindLeads find (T.contents tree.old) key act.refusals self.old self.new) }
+        ensures leads { IfOk result (λ act.
+            FindLeads find (T.contents tree.old) key act.refusals self.old self.new) }
         ensures asks { IfOk result (λ act. act.ask ≡ Ask.Nothing) }
         ensures size { HasSameSize self.old self.new }
         ensures settled { self.new.planned ≡ None }
         ensures lost { OnErr result (self.new ≡ record self.old { over = FindBox find }) }
-        ensures reads { ReadsTree (λ (act : KeyActType). act.refusals) result (T.contents tree.old) (T.contents tree.new)
+        ensures reads { ReadsTree (λ (act : KeyActType). act.refusals) result (T.contents tree.old)
+            (T.contents tree.new)
             (T.fault_count tree.old) (T.fault_count tree.new) }
     {
         let _lines = &self.lines;
@@ -88,12 +91,14 @@ impl Ui {
         path: Path,
     ) -> Result<KeyAct, NoMemory>
         requires clear { self.old.over ≡ NoBox }
-        ensures leads { IfOk result (λ act. GoesToFound path find (T.contents tree.old) act.refusals self.old self.new) }
+        ensures leads { IfOk result (λ act.
+            GoesToFound path find (T.contents tree.old) act.refusals self.old self.new) }
         ensures asks { IfOk result (λ act. act.ask ≡ Ask.Nothing) }
         ensures size { HasSameSize self.old self.new }
         ensures settled { self.new.planned ≡ None }
         ensures lost { OnErr result (self.new ≡ record self.old { over = FindBox find }) }
-        ensures reads { ReadsTree (λ (act : KeyActType). act.refusals) result (T.contents tree.old) (T.contents tree.new)
+        ensures reads { ReadsTree (λ (act : KeyActType). act.refusals) result (T.contents tree.old)
+            (T.contents tree.new)
             (T.fault_count tree.old) (T.fault_count tree.new) }
     {
         let page = self.page();

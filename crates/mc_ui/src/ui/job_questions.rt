@@ -22,7 +22,8 @@ use ui_job_boxes::{JobBox, JobReply, Surroundings};
 impl Ui {
     /// Asks for a new folder.
     pub(super) fn ask_folder(&mut self, alloc: Global) -> Result<(), NoMemory>
-        ensures opened { OnOk result (self.new ≡ record self.old { over = OneJobBox (FolderBox folder_line) }) }
+        ensures opened { OnOk result
+            (self.new ≡ record self.old { over = OneJobBox (FolderBox folder_line) }) }
         ensures lost { OnErr result (self.new ≡ self.old) }
     {
         let asks = JobBox::ask_folder(alloc)?;
@@ -32,7 +33,8 @@ impl Ui {
 
     /// Asks what a new link is to say.
     pub(super) fn ask_link(&mut self, alloc: Global) -> Result<(), NoMemory>
-        ensures opened { OnOk result (self.new ≡ record self.old { over = OneJobBox (LinkTextBox (link_asked self.old.panels.current)) }) }
+        ensures opened { OnOk result (self.new
+            ≡ record self.old { over = OneJobBox (LinkTextBox (link_asked self.old.panels.current)) }) }
         ensures lost { OnErr result (self.new ≡ self.old) }
     {
         let asks = JobBox::ask_link(alloc, self.panels().current())?;
@@ -50,12 +52,15 @@ impl Ui {
         key: Key,
     ) -> Result<KeyAct, NoMemory>
         requires clear { self.old.over ≡ NoBox }
-        ensures leads { IfOk result (λ act. JobLeads (seen_job_box asks) (T.contents tree.old) rows.now key act.refusals
+        ensures leads { IfOk result (λ act.
+            JobLeads (seen_job_box asks) (T.contents tree.old) rows.now key act.refusals
             (record self.old { over = OneJobBox (seen_job_box asks) }) (with_ask act.ask self.new)) }
-        ensures asks { IfOk result (λ act. Asks rows.now act.ask act.refusals (record self.old { over = OneJobBox (seen_job_box asks) }) self.new) }
+        ensures asks { IfOk result (λ act. Asks rows.now act.ask act.refusals
+            (record self.old { over = OneJobBox (seen_job_box asks) }) self.new) }
         ensures rest { record self.new { over = NoBox; message = self.old.message } ≡ self.old }
         ensures lost { OnErr result (self.new ≡ record self.old { over = OneJobBox (seen_job_box asks) }) }
-        ensures reads { ReadsTree (λ (act : KeyActType). act.refusals) result (T.contents tree.old) (T.contents tree.new)
+        ensures reads { ReadsTree (λ (act : KeyActType). act.refusals) result (T.contents tree.old)
+            (T.contents tree.new)
             (T.fault_count tree.old) (T.fault_count tree.new) }
     {
         let mut asks = asks;

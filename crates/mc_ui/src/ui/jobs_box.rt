@@ -1,4 +1,5 @@
-//! Keys while the live jobs are listed. The list was taken out, and what stands there after the key is put in its place.
+//! Keys while the live jobs are listed. The list was taken out, and what stands there after the
+//! key is put in its place.
 ghost use Rattle.std.specs.Prelude.{◌≡◌, [], None, OnErr, OnOk, IfOk};
 ghost use Rattle.mc_ui.specs.declared.asks.Ask.{Ask};
 ghost use Rattle.mc_ui.specs.Boxes.{JobsBox, NoBox, seen_box};
@@ -17,7 +18,8 @@ use ui_job_boxes::JobBox;
 use ui_job_list::{JobList, JobsAct};
 
 impl Ui {
-    /// A key while these jobs are listed: the list stays or is shut, or the box of what a job waits with stands in its place.
+    /// A key while these jobs are listed: the list stays or is shut, or the box of what a job waits
+    /// with stands in its place.
     pub(super) fn key_in_jobs(
         &mut self,
         alloc: Global,

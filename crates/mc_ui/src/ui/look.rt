@@ -22,8 +22,9 @@ use ui_job_boxes::JobBox;
 use ui_words::Message;
 
 impl Ui {
-    /// Takes up what the live jobs did. After a job's end, which `has_unseen_end` says, each panel is read again. A question or a
-    /// trouble gets its box; what was refused, or the news of that end, a message. It takes a look for each child of the folders that are read.
+    /// Takes up what the live jobs did. After a job's end, which `has_unseen_end` says, each panel is read
+    /// again. A question or a trouble gets its box; what was refused, or the news of that end, a message.
+    /// It takes a look for each child of the folders that are read.
     pub fn look<T: ReadTree>(
         &mut self,
         alloc: Global,
@@ -32,11 +33,13 @@ impl Ui {
         has_unseen_end: bool,
         news: Option<Message>,
     ) -> Result<Refusals, NoMemory>
-        ensures leads { IfOk result (λ refusals. LookLeads (T.contents tree.old) rows.now has_unseen_end news refusals self.old self.new) }
+        ensures leads { IfOk result (λ refusals.
+            LookLeads (T.contents tree.old) rows.now has_unseen_end news refusals self.old self.new) }
         ensures size { HasSameSize self.old self.new }
         ensures settled { self.new.planned ≡ None }
         ensures lost { OnErr result (self.new ≡ self.old) }
-        ensures reads { ReadsTree (λ (refusals : List RefusalType). refusals) result (T.contents tree.old) (T.contents tree.new)
+        ensures reads { ReadsTree (λ (refusals : List RefusalType). refusals) result (T.contents tree.old)
+            (T.contents tree.new)
             (T.fault_count tree.old) (T.fault_count tree.new) }
     {
         let _lines = &self.lines;
@@ -54,10 +57,13 @@ impl Ui {
         tree: &mut T,
         has_unseen_end: bool,
     ) -> Result<Refusals, NoMemory>
-        ensures panels { IfOk result (λ refusals. LooksAgain (T.contents tree.old) has_unseen_end (page_of self.old) refusals self.old.panels self.new.panels) }
-        ensures rest { IfOk result (λ refusals. self.new ≡ with_told refusals (with_panels self.new.panels self.old)) }
+        ensures panels { IfOk result (λ refusals. LooksAgain (T.contents tree.old) has_unseen_end
+            (page_of self.old) refusals self.old.panels self.new.panels) }
+        ensures rest { IfOk result (λ refusals.
+            self.new ≡ with_told refusals (with_panels self.new.panels self.old)) }
         ensures lost { OnErr result (self.new ≡ self.old) }
-        ensures reads { ReadsTree (λ (refusals : List RefusalType). refusals) result (T.contents tree.old) (T.contents tree.new)
+        ensures reads { ReadsTree (λ (refusals : List RefusalType). refusals) result (T.contents tree.old)
+            (T.contents tree.new)
             (T.fault_count tree.old) (T.fault_count tree.new) }
     {
         let _dialog = &self.dialog;
@@ -69,10 +75,13 @@ impl Ui {
 
     /// Reads the panels again. What is told of it finds its memory before they take what was read.
     fn read_again<T: ReadTree>(&mut self, alloc: Global, tree: &mut T) -> Result<Refusals, NoMemory>
-        ensures panels { IfOk result (λ refusals. ReadsAgain (T.contents tree.old) (page_of self.old) refusals self.old.panels self.new.panels) }
-        ensures rest { IfOk result (λ refusals. self.new ≡ with_told refusals (with_panels self.new.panels self.old)) }
+        ensures panels { IfOk result (λ refusals.
+            ReadsAgain (T.contents tree.old) (page_of self.old) refusals self.old.panels self.new.panels) }
+        ensures rest { IfOk result (λ refusals.
+            self.new ≡ with_told refusals (with_panels self.new.panels self.old)) }
         ensures lost { OnErr result (self.new ≡ self.old) }
-        ensures reads { ReadsTree (λ (refusals : List RefusalType). refusals) result (T.contents tree.old) (T.contents tree.new)
+        ensures reads { ReadsTree (λ (refusals : List RefusalType). refusals) result (T.contents tree.old)
+            (T.contents tree.new)
             (T.fault_count tree.old) (T.fault_count tree.new) }
     {
         let _dialog = &self.dialog;
@@ -87,7 +96,8 @@ impl Ui {
     /// Gives the panels what was read for them.
     fn take(&mut self, reread: Reread)
         requires read { IsRereadOf self.old.panels reread }
-        ensures panels { PanelsLookAgain (page_of self.old) (unread_of reread) self.old.panels self.new.panels }
+        ensures panels { PanelsLookAgain (page_of self.old) (unread_of reread) self.old.panels
+            self.new.panels }
         ensures shows { TakesReread reread self.old.panels self.new.panels }
         ensures rest { self.new ≡ with_panels self.new.panels self.old }
     {

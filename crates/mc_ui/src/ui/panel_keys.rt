@@ -4,7 +4,8 @@ ghost use Rattle.mc_ui.specs.declared.asks.KeyAct.{KeyAct as KeyActType};
 ghost use Rattle.mc_ui.specs.PanelKeys.{panel_command_of};
 ghost use Rattle.ui_plans.specs.Reading.{ReadsTree, sight};
 ghost use Rattle.mc_ui.specs.Boxes.{NoBox, seen_box};
-ghost use Rattle.mc_ui.specs.Screens.{Chooses, CommandLeads, HasSameSize, WellAsked, Works, is_request, told_refusal, with_ask};
+ghost use Rattle.mc_ui.specs.Screens.{Chooses, CommandLeads, HasSameSize, WellAsked};
+ghost use Rattle.mc_ui.specs.Screens.{Works, is_request, told_refusal, with_ask};
 
 use super::Ui;
 use crate::asks::{Ask, KeyAct};
@@ -39,7 +40,8 @@ impl Ui {
         ensures size { HasSameSize self.old self.new }
         ensures settled { self.new.planned ≡ None }
         ensures lost { OnErr result (self.new ≡ self.old) }
-        ensures reads { ReadsTree (λ (act : KeyActType). act.refusals) result (T.contents tree.old) (T.contents tree.new)
+        ensures reads { ReadsTree (λ (act : KeyActType). act.refusals) result (T.contents tree.old)
+            (T.contents tree.new)
             (T.fault_count tree.old) (T.fault_count tree.new) }
     {
         let _lines = &self.lines;
@@ -68,19 +70,22 @@ impl Ui {
         }
     }
 
-    /// Does what a command of the panels says. Where it is refused they stay as they were, and a message says so.
+    /// Does what a command of the panels says. Where it is refused they stay as they
+    /// were, and a message says so.
     pub(super) fn work<T: ReadTree>(
         &mut self,
         alloc: Global,
         tree: &mut T,
         command: PanelCommand,
     ) -> Result<KeyAct, NoMemory>
-        ensures leads { IfOk result (λ act. Works command (T.contents tree.old) act.refusals self.old self.new) }
+        ensures leads { IfOk result (λ act.
+            Works command (T.contents tree.old) act.refusals self.old self.new) }
         ensures asks { IfOk result (λ act. act.ask ≡ Ask.Nothing) }
         ensures size { HasSameSize self.old self.new }
         ensures settled { self.new.planned ≡ None }
         ensures lost { OnErr result (self.new ≡ self.old) }
-        ensures reads { ReadsTree (λ (act : KeyActType). act.refusals) result (T.contents tree.old) (T.contents tree.new)
+        ensures reads { ReadsTree (λ (act : KeyActType). act.refusals) result (T.contents tree.old)
+            (T.contents tree.new)
             (T.fault_count tree.old) (T.fault_count tree.new) }
     {
         let _dialog = &self.dialog;
@@ -99,7 +104,8 @@ impl Ui {
         self.message = Some(Message::Help);
     }
 
-    /// Opens a box on the things that are selected, if the box may ask of them. Where nothing is selected a message says so.
+    /// Opens a box on the things that are selected, if the box may ask of them. Where nothing is
+    /// selected a message says so.
     pub(super) fn open_box<T: ReadTree>(
         &mut self,
         alloc: Global,
@@ -107,12 +113,14 @@ impl Ui {
         opens: Opens,
     ) -> Result<KeyAct, NoMemory>
         requires clear { self.old.over ≡ NoBox }
-        ensures leads { IfOk result (λ act. Chooses opens (sight (T.contents tree.old)) self.old.panels.current act.refusals self.old self.new) }
+        ensures leads { IfOk result (λ act. Chooses opens (sight (T.contents tree.old))
+            self.old.panels.current act.refusals self.old self.new) }
         ensures asks { IfOk result (λ act. act.ask ≡ Ask.Nothing) }
         ensures size { HasSameSize self.old self.new }
         ensures settled { self.new.planned ≡ None }
         ensures lost { OnErr result (self.new ≡ self.old) }
-        ensures reads { ReadsTree (λ (act : KeyActType). act.refusals) result (T.contents tree.old) (T.contents tree.new)
+        ensures reads { ReadsTree (λ (act : KeyActType). act.refusals) result (T.contents tree.old)
+            (T.contents tree.new)
             (T.fault_count tree.old) (T.fault_count tree.new) }
     {
         let _lines = &self.lines;

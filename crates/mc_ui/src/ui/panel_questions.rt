@@ -24,7 +24,8 @@ use ui_plans::Opens;
 impl Ui {
     /// Opens a box of the panels.
     pub(super) fn open_panel_box(&mut self, alloc: Global, opening: Opening) -> Result<(), NoMemory>
-        ensures opened { OnOk result (self.new ≡ record self.old { over = PanelsBox (opened_box self.old.lines opening) }) }
+        ensures opened { OnOk result
+            (self.new ≡ record self.old { over = PanelsBox (opened_box self.old.lines opening) }) }
         ensures lost { OnErr result (self.new ≡ self.old) }
     {
         let opened = PanelBox::open(alloc, self.lines(), opening)?;
@@ -41,13 +42,15 @@ impl Ui {
         key: Key,
     ) -> Result<KeyAct, NoMemory>
         requires clear { self.old.over ≡ NoBox }
-        ensures leads { IfOk result (λ act. PanelLeads (reply_to self.old.panels asks key) (box_after asks key) (T.contents tree.old)
+        ensures leads { IfOk result (λ act.
+            PanelLeads (reply_to self.old.panels asks key) (box_after asks key) (T.contents tree.old)
             act.refusals self.old self.new) }
         ensures asks { IfOk result (λ act. act.ask ≡ Ask.Nothing) }
         ensures size { HasSameSize self.old self.new }
         ensures settled { self.new.planned ≡ None }
         ensures lost { OnErr result (self.new ≡ record self.old { over = PanelsBox asks }) }
-        ensures reads { ReadsTree (λ (act : KeyActType). act.refusals) result (T.contents tree.old) (T.contents tree.new)
+        ensures reads { ReadsTree (λ (act : KeyActType). act.refusals) result (T.contents tree.old)
+            (T.contents tree.new)
             (T.fault_count tree.old) (T.fault_count tree.new) }
     {
         let _lines = &self.lines;

@@ -14,14 +14,18 @@ use tree_trait::ReadTree;
 use ui_find::FindMode;
 
 impl Ui {
-    /// Makes one step of the search that goes on, if one does: at most a look and the read of a file, or a listing. Where memory is
-    /// wanting nothing is lost, and the next step goes on.
+    /// Makes one step of the search that goes on, if one does: at most a look and the read of a file, or a
+    /// listing. Where memory is wanting nothing is lost, and the next step goes on.
     pub fn seek<T: ReadTree>(&mut self, alloc: Global, tree: &mut T) -> Result<(), NoMemory>
-        ensures leads { OnOk result (SeekLeads (T.contents tree.old) (T.fault_count tree.old) (T.fault_count tree.new) self.old.over self.new.over) }
+        ensures leads { OnOk result (SeekLeads (T.contents tree.old) (T.fault_count tree.old)
+            (T.fault_count tree.new) self.old.over self.new.over) }
         ensures rest { self.new ≡ with_list (list_in self.new.over) self.old }
-        ensures lost { OnErr result (list_in self.new.over ≡ record (list_in self.old.over) { search = (list_in self.new.over).search }) }
-        ensures kept { IsKept (T.contents tree.old) (T.fault_count tree.old) (T.fault_count tree.new) (list_in self.old.over) (list_in self.new.over) }
-        ensures falls { OnOk result (does_seek self.old ≡ true → steps_to_end (list_in self.new.over) < steps_to_end (list_in self.old.over)) }
+        ensures lost { OnErr result (list_in self.new.over
+            ≡ record (list_in self.old.over) { search = (list_in self.new.over).search }) }
+        ensures kept { IsKept (T.contents tree.old) (T.fault_count tree.old) (T.fault_count tree.new)
+            (list_in self.old.over) (list_in self.new.over) }
+        ensures falls { OnOk result (does_seek self.old ≡ true
+            → steps_to_end (list_in self.new.over) < steps_to_end (list_in self.old.over)) }
         ensures still { does_seek self.old ≡ false → (tree.new ≡ tree.old) × (self.new ≡ self.old) }
         ensures size { HasSameSize self.old self.new }
         ensures settled { self.new.planned ≡ None }
@@ -55,12 +59,17 @@ impl Ui {
         find: FindMode,
     ) -> Result<(), NoMemory>
         requires clear { self.old.over ≡ NoBox }
-        ensures leads { OnOk result (StepLeads find.listing.search (T.contents tree.old) (T.fault_count tree.old)
+        ensures leads { OnOk result
+            (StepLeads find.listing.search (T.contents tree.old) (T.fault_count tree.old)
             (T.fault_count tree.new) find.listing (list_in self.new.over)) }
-        ensures rest { self.new ≡ record self.old { over = FindBox (with_listing (list_in self.new.over) find) } }
-        ensures lost { OnErr result (list_in self.new.over ≡ record find.listing { search = (list_in self.new.over).search }) }
-        ensures kept { IsKept (T.contents tree.old) (T.fault_count tree.old) (T.fault_count tree.new) find.listing (list_in self.new.over) }
-        ensures falls { OnOk result (is_some find.listing.search ≡ true → steps_to_end (list_in self.new.over) < steps_to_end find.listing) }
+        ensures rest { self.new
+            ≡ record self.old { over = FindBox (with_listing (list_in self.new.over) find) } }
+        ensures lost { OnErr result
+            (list_in self.new.over ≡ record find.listing { search = (list_in self.new.over).search }) }
+        ensures kept { IsKept (T.contents tree.old) (T.fault_count tree.old) (T.fault_count tree.new)
+            find.listing (list_in self.new.over) }
+        ensures falls { OnOk result (is_some find.listing.search ≡ true
+            → steps_to_end (list_in self.new.over) < steps_to_end find.listing) }
         ensures still { does_seek (record self.old { over = FindBox find }) ≡ false
             → (tree.new ≡ tree.old) × (self.new ≡ record self.old { over = FindBox find }) }
         ensures same { T.contents tree.new ≡ T.contents tree.old }

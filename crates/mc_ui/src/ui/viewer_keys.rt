@@ -1,4 +1,5 @@
-//! The viewer: how F3 opens it, and its keys. A viewed file was taken out while its key is worked, and is put back after it.
+//! The viewer: how F3 opens it, and its keys. A viewed file was taken out while its key is worked,
+//! and is put back after it.
 ghost use Rattle.std.specs.Prelude.{◌≡◌, [], ◌<◌, false, None, Some, OnErr, IfOk, vec_len, vec_capacity};
 ghost use Rattle.panel_state.specs.Goings.{way_of};
 ghost use Rattle.panel_state.specs.Panels.{current_name};
@@ -8,8 +9,10 @@ ghost use Rattle.ui_viewer.specs.Motions.{LooksAtNothing};
 ghost use Rattle.ui_viewer.specs.ViewerScreens.{KeyLeads as ViewerKeyLeads, wanted_motion};
 ghost use Rattle.mc_ui.specs.declared.asks.KeyAct.{KeyAct as KeyActType};
 ghost use Rattle.mc_ui.specs.declared.ui.viewer_keys.ViewerDeed.{ViewerDeed as ViewerDeedType};
-ghost use Rattle.mc_ui.specs.Viewings.{goes_on as goes_on_by, opening_refusals, told_by as told_of_act, viewed_path as path_viewed};
-ghost use Rattle.mc_ui.specs.Screens.{HasSameSize, ViewerLeads, Views, ViewsNamed, after_act, after_leaving, after_opening, is_request, with_ask};
+ghost use Rattle.mc_ui.specs.Viewings.{goes_on as goes_on_by, opening_refusals};
+ghost use Rattle.mc_ui.specs.Viewings.{told_by as told_of_act, viewed_path as path_viewed};
+ghost use Rattle.mc_ui.specs.Screens.{HasSameSize, ViewerLeads, Views, ViewsNamed, after_act};
+ghost use Rattle.mc_ui.specs.Screens.{after_leaving, after_opening, is_request, with_ask};
 
 use super::Ui;
 use super::panel_keys::{asking, asking_nothing};
@@ -51,7 +54,8 @@ impl Ui {
         ensures size { HasSameSize self.old self.new }
         ensures settled { self.new.planned ≡ None }
         ensures lost { OnErr result (self.new ≡ self.old) }
-        ensures reads { ReadsTree (λ (act : KeyActType). act.refusals) result (T.contents tree.old) (T.contents tree.new)
+        ensures reads { ReadsTree (λ (act : KeyActType). act.refusals) result (T.contents tree.old)
+            (T.contents tree.new)
             (T.fault_count tree.old) (T.fault_count tree.new) }
     {
         if goes_on(self.panels().current()) {
@@ -62,12 +66,14 @@ impl Ui {
 
     /// Views the thing under the cursor, or the one to which it leads as a link, if there is a name there.
     fn view_named<T: ReadTree>(&mut self, alloc: Global, tree: &mut T) -> Result<KeyAct, NoMemory>
-        ensures leads { IfOk result (λ act. ViewsNamed (current_name self.old.panels.current) (T.contents tree.old) act.refusals self.old self.new) }
+        ensures leads { IfOk result (λ act. ViewsNamed (current_name self.old.panels.current)
+            (T.contents tree.old) act.refusals self.old self.new) }
         ensures asks { IfOk result (λ act. act.ask ≡ Ask.Nothing) }
         ensures size { HasSameSize self.old self.new }
         ensures settled { self.new.planned ≡ None }
         ensures lost { OnErr result (self.new ≡ self.old) }
-        ensures reads { ReadsTree (λ (act : KeyActType). act.refusals) result (T.contents tree.old) (T.contents tree.new)
+        ensures reads { ReadsTree (λ (act : KeyActType). act.refusals) result (T.contents tree.old)
+            (T.contents tree.new)
             (T.fault_count tree.old) (T.fault_count tree.new) }
     {
         let _dialog = &self.dialog;
@@ -89,7 +95,8 @@ impl Ui {
     /// Shows what opening a thing came to: it is viewed, or a message says why it isn't.
     fn show_opening(&mut self, alloc: Global, opening: Opening) -> Result<KeyAct, NoMemory>
         ensures after { IfOk result (λ _act. self.new ≡ after_opening opening self.old) }
-        ensures act { IfOk result (λ act. act ≡ record { ask = Ask.Nothing; refusals = opening_refusals opening }) }
+        ensures act { IfOk result (λ act.
+            act ≡ record { ask = Ask.Nothing; refusals = opening_refusals opening }) }
         ensures size { HasSameSize self.old self.new }
         ensures settled { self.new.planned ≡ None }
         ensures lost { OnErr result (self.new ≡ self.old) }
@@ -113,13 +120,16 @@ impl Ui {
         viewed: ViewedFile,
         key: Key,
     ) -> Result<KeyAct, NoMemory>
-        ensures leads { IfOk result (λ act. ViewerLeads viewed (T.contents tree.old) key act.refusals self.old (with_ask act.ask self.new)) }
+        ensures leads { IfOk result (λ act.
+            ViewerLeads viewed (T.contents tree.old) key act.refusals self.old (with_ask act.ask self.new)) }
         ensures unasked { IfOk result (λ act. is_request act.ask ≡ false) }
         ensures size { HasSameSize self.old self.new }
         ensures settled { self.new.planned ≡ None }
-        ensures still { LooksAtNothing (wanted_motion key viewed.mode) viewed.mode.viewer → tree.new ≡ tree.old }
+        ensures still { LooksAtNothing (wanted_motion key viewed.mode) viewed.mode.viewer
+            → tree.new ≡ tree.old }
         ensures lost { OnErr result (self.new ≡ record self.old { viewing = Some viewed }) }
-        ensures reads { ReadsTree (λ (act : KeyActType). act.refusals) result (T.contents tree.old) (T.contents tree.new)
+        ensures reads { ReadsTree (λ (act : KeyActType). act.refusals) result (T.contents tree.old)
+            (T.contents tree.new)
             (T.fault_count tree.old) (T.fault_count tree.new) }
     {
         let _dialog = &self.dialog;
@@ -204,18 +214,22 @@ fn open_named<T: ReadTree>(
     open_thing(alloc, tree, folder, name, lines, columns)
 }
 
-/// Works a key of the viewer. What telling a refusal takes is found before, so that it stays as it was where there is no memory.
+/// Works a key of the viewer. What telling a refusal takes is found before, so that it stays as it was
+/// where there is no memory.
 fn work_viewer<T: ReadTree>(
     alloc: Global,
     tree: &mut T,
     mode: &mut ViewerMode,
     key: Key,
 ) -> Result<ViewerDeed, NoMemory>
-    ensures leads { IfOk result (λ deed. ViewerKeyLeads (T.contents tree.old) key deed.act mode.old mode.new) }
-    ensures told { IfOk result (λ deed. deed.refusals ≡ told_of_act deed.act (path_viewed mode.old.viewer.subject)) }
+    ensures leads { IfOk result (λ deed.
+        ViewerKeyLeads (T.contents tree.old) key deed.act mode.old mode.new) }
+    ensures told { IfOk result (λ deed.
+        deed.refusals ≡ told_of_act deed.act (path_viewed mode.old.viewer.subject)) }
     ensures still { LooksAtNothing (wanted_motion key mode.old) mode.old.viewer → tree.new ≡ tree.old }
     ensures lost { OnErr result (mode.new ≡ mode.old) }
-    ensures reads { ReadsTree (λ (deed : ViewerDeedType). deed.refusals) result (T.contents tree.old) (T.contents tree.new)
+    ensures reads { ReadsTree (λ (deed : ViewerDeedType). deed.refusals) result (T.contents tree.old)
+        (T.contents tree.new)
         (T.fault_count tree.old) (T.fault_count tree.new) }
 {
     let room = telling_room(alloc, mode.subject())?;

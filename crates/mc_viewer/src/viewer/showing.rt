@@ -1,7 +1,8 @@
 //! Steps and searches with the page behind them: a viewer goes nowhere where it can't show what is there.
 ghost use Rattle.std.specs.Prelude.{◌≡◌, ◌≢◌, ◌≤◌, None, Ok, IfOk, IfErr, OnOk, OnErr, true};
 ghost use Rattle.tree_trait.specs.Answers.{IfKnown, HasCause};
-ghost use Rattle.mc_viewer.specs.Viewing.{held_bytes, IfRead, IsReadable, IsReadError, AsTheTreeSays, is_output};
+ghost use Rattle.mc_viewer.specs.Viewing.{held_bytes, IfRead, IsReadable};
+ghost use Rattle.mc_viewer.specs.Viewing.{IsReadError, AsTheTreeSays, is_output};
 ghost use Rattle.mc_viewer.specs.Searches.{after_search, after_next, IsMissed, IsSearchError};
 ghost use Rattle.mc_viewer.specs.ViewerSteps.{page_of, after_step};
 
@@ -32,7 +33,8 @@ impl Viewer {
         self.state.is_hex
     }
 
-    /// Makes a step, and gives the rows that are shown then. Where one of the two is refused it stays where it stood.
+    /// Makes a step, and gives the rows that are shown then. Where one of the two is refused
+    /// it stays where it stood.
     pub fn step_to_page<T: ReadTree>(
         &mut self,
         alloc: Global,
@@ -46,12 +48,15 @@ impl Viewer {
         ensures subject { self.new.subject ≡ self.old.subject }
         ensures last { self.new.last ≡ self.old.last }
         ensures stays { OnErr result (self.new ≡ self.old) }
-        ensures readable { IfKnown (T.contents tree.old) (λ log. IfOk result (λ _. IsReadable log self.old.subject)) }
-        ensures refused { IfKnown (T.contents tree.old) (λ log. IfErr result (AsTheTreeSays log self.old.subject)) }
+        ensures readable { IfKnown (T.contents tree.old) (λ log.
+            IfOk result (λ _. IsReadable log self.old.subject)) }
+        ensures refused { IfKnown (T.contents tree.old) (λ log.
+            IfErr result (AsTheTreeSays log self.old.subject)) }
         ensures kinds { IfErr result IsReadError }
         ensures same { T.contents tree.new ≡ T.contents tree.old }
         ensures apart { is_output self.old.subject ≡ true → tree.new ≡ tree.old }
-        ensures cause { HasCause (ViewError.Tree TreeError.Fault) (T.fault_count tree.old) (T.fault_count tree.new) result }
+        ensures cause { HasCause (ViewError.Tree TreeError.Fault) (T.fault_count tree.old)
+            (T.fault_count tree.new) result }
     {
         let state = moved(alloc, tree, &self.subject, self.state, step)?;
         let rows = page_at(alloc, tree, &self.subject, state)?;
@@ -59,9 +64,9 @@ impl Viewer {
         Ok(rows)
     }
 
-    /// Searches from the top on, and gives the rows that are shown then. Where one of the two fails it stays where it stood, and
-    /// what was found before is still the last.
-    #[tactic(auto, using(crate::proofs::SeekLemmas::missed_unread, crate::proofs::SeekLemmas::read_error_search, crate::proofs::SeekLemmas::unread, crate::proofs::SeekLemmas::once_read))]
+    /// Searches from the top on, and gives the rows that are shown then. Where one of the two fails it
+    /// stays where it stood, and what was found before is still the last.
+    #[tactic(auto, using(crate::proofs::SeekLemmas::readings))]
     pub fn search_to_page<T: ReadTree>(
         &mut self,
         alloc: Global,
@@ -76,12 +81,15 @@ impl Viewer {
             IfOk result (λ rows. rows ≡ page_of bytes self.new.state)) }
         ensures subject { self.new.subject ≡ self.old.subject }
         ensures stays { OnErr result (self.new ≡ self.old) }
-        ensures readable { IfKnown (T.contents tree.old) (λ log. IfRead result (IsReadable log self.old.subject)) }
-        ensures refused { IfKnown (T.contents tree.old) (λ log. IfErr result (AsTheTreeSays log self.old.subject)) }
+        ensures readable { IfKnown (T.contents tree.old) (λ log.
+            IfRead result (IsReadable log self.old.subject)) }
+        ensures refused { IfKnown (T.contents tree.old) (λ log.
+            IfErr result (AsTheTreeSays log self.old.subject)) }
         ensures kinds { IfErr result IsSearchError }
         ensures same { T.contents tree.new ≡ T.contents tree.old }
         ensures apart { is_output self.old.subject ≡ true → tree.new ≡ tree.old }
-        ensures cause { HasCause (ViewError.Tree TreeError.Fault) (T.fault_count tree.old) (T.fault_count tree.new) result }
+        ensures cause { HasCause (ViewError.Tree TreeError.Fault) (T.fault_count tree.old)
+            (T.fault_count tree.new) result }
     {
         let landing = first_landing(alloc, tree, &self.subject, self.state, &what)?;
         let rows = page_at(alloc, tree, &self.subject, landing.state)?;
@@ -93,9 +101,9 @@ impl Viewer {
         Ok(rows)
     }
 
-    /// Searches once more, behind what was found last, and gives the rows that are shown then. Where one of the two fails it stays
-    /// as it was. Before any search nothing is found, and nothing is looked at.
-    #[tactic(auto, using(crate::proofs::SeekLemmas::missed_unread, crate::proofs::SeekLemmas::read_error_search, crate::proofs::SeekLemmas::unread, crate::proofs::SeekLemmas::once_read))]
+    /// Searches once more, behind what was found last, and gives the rows that are shown then. Where one of
+    /// the two fails it stays as it was. Before any search nothing is found, and nothing is looked at.
+    #[tactic(auto, using(crate::proofs::SeekLemmas::readings))]
     pub fn next_to_page<T: ReadTree>(
         &mut self,
         alloc: Global,
@@ -112,11 +120,13 @@ impl Viewer {
         ensures unsought { self.old.last ≡ None → (result ≡ Err ViewError.NotFound) × (tree.new ≡ tree.old) }
         ensures readable { IfKnown (T.contents tree.old) (λ log.
             IfRead result (self.old.last ≢ None → IsReadable log self.old.subject)) }
-        ensures refused { IfKnown (T.contents tree.old) (λ log. IfErr result (AsTheTreeSays log self.old.subject)) }
+        ensures refused { IfKnown (T.contents tree.old) (λ log.
+            IfErr result (AsTheTreeSays log self.old.subject)) }
         ensures kinds { IfErr result IsSearchError }
         ensures same { T.contents tree.new ≡ T.contents tree.old }
         ensures apart { is_output self.old.subject ≡ true → tree.new ≡ tree.old }
-        ensures cause { HasCause (ViewError.Tree TreeError.Fault) (T.fault_count tree.old) (T.fault_count tree.new) result }
+        ensures cause { HasCause (ViewError.Tree TreeError.Fault) (T.fault_count tree.old)
+            (T.fault_count tree.new) result }
     {
         let landing = next_landing(alloc, tree, &self.subject, self.state, &self.last)?;
         let rows = page_at(alloc, tree, &self.subject, landing.state)?;
@@ -141,7 +151,8 @@ fn page_at<T: ReadTree>(
     ensures kinds { IfErr result IsReadError }
     ensures same { T.contents tree.new ≡ T.contents tree.old }
     ensures apart { is_output subject.now ≡ true → tree.new ≡ tree.old }
-    ensures cause { HasCause (ViewError.Tree TreeError.Fault) (T.fault_count tree.old) (T.fault_count tree.new) result }
+    ensures cause { HasCause (ViewError.Tree TreeError.Fault) (T.fault_count tree.old)
+        (T.fault_count tree.new) result }
 {
     page_rows(
         alloc,

@@ -4,7 +4,8 @@ ghost use Rattle.ui_words.specs.BoxKeys.{line_reply as line_reply_of};
 ghost use Rattle.mc_dialogs.specs.InputKeys.{input_after, input_shut};
 ghost use Rattle.tagging.specs.TypedPatterns.{pattern_in};
 ghost use Rattle.ui_find.specs.Questions.{asks};
-ghost use Rattle.ui_find.specs.FindScreens.{AnswerLeads, LineLeads, NamesLead, ReadsTree, StartLeads, begins, looks_by, with_line};
+ghost use Rattle.ui_find.specs.FindScreens.{AnswerLeads, LineLeads, NamesLead, ReadsTree};
+ghost use Rattle.ui_find.specs.FindScreens.{StartLeads, begins, looks_by, with_line};
 ghost use Rattle.ui_find.specs.Listings.{IsBegun};
 
 use super::FindMode;
@@ -31,11 +32,15 @@ impl FindMode {
         key: Key,
     ) -> Result<FindAct, NoMemory>
         requires clear { self.old.asking ≡ None }
-        ensures leads { IfOk result (λ act. LineLeads (line_reply_of (input_shut asking.line key)) asking.asked
-            (input_after asking.line key) (T.contents tree.old) act (with_line (Some asking) self.old) self.new) }
-        ensures still { looks_by (line_reply_of (input_shut asking.line key)) asking.asked ≡ false → tree.new ≡ tree.old }
+        ensures leads { IfOk result (λ act.
+            LineLeads (line_reply_of (input_shut asking.line key)) asking.asked
+            (input_after asking.line key) (T.contents tree.old) act
+            (with_line (Some asking) self.old) self.new) }
+        ensures still { looks_by (line_reply_of (input_shut asking.line key)) asking.asked ≡ false
+            → tree.new ≡ tree.old }
         ensures lost { OnErr result (self.new ≡ with_line (Some asking) self.old) }
-        ensures reads { ReadsTree result (T.contents tree.old) (T.contents tree.new) (T.fault_count tree.old) (T.fault_count tree.new) }
+        ensures reads { ReadsTree result (T.contents tree.old) (T.contents tree.new) (T.fault_count tree.old)
+            (T.fault_count tree.new) }
     {
         let _folder = &self.folder;
         let Asking { asked, line } = asking;
@@ -68,8 +73,10 @@ impl FindMode {
         ensures leads { IfOk result (λ act. AnswerLeads asked text (T.contents tree.old) act
             (with_line (Some (record { asked = asked; line = line })) self.old) self.new) }
         ensures still { looks_by (LineReply.Takes text) asked ≡ false → tree.new ≡ tree.old }
-        ensures lost { OnErr result (self.new ≡ with_line (Some (record { asked = asked; line = line })) self.old) }
-        ensures reads { ReadsTree result (T.contents tree.old) (T.contents tree.new) (T.fault_count tree.old) (T.fault_count tree.new) }
+        ensures lost { OnErr result
+            (self.new ≡ with_line (Some (record { asked = asked; line = line })) self.old) }
+        ensures reads { ReadsTree result (T.contents tree.old) (T.contents tree.new) (T.fault_count tree.old)
+            (T.fault_count tree.new) }
     {
         match asked {
             Asked::Start => self.answer_start(alloc, tree, line, text),
@@ -89,8 +96,10 @@ impl FindMode {
         requires clear { self.old.asking ≡ None }
         ensures leads { IfOk result (λ act. StartLeads text (T.contents tree.old) act
             (with_line (Some (record { asked = Asked.Start; line = line })) self.old) self.new) }
-        ensures lost { OnErr result (self.new ≡ with_line (Some (record { asked = Asked.Start; line = line })) self.old) }
-        ensures reads { ReadsTree result (T.contents tree.old) (T.contents tree.new) (T.fault_count tree.old) (T.fault_count tree.new) }
+        ensures lost { OnErr result
+            (self.new ≡ with_line (Some (record { asked = Asked.Start; line = line })) self.old) }
+        ensures reads { ReadsTree result (T.contents tree.old) (T.contents tree.new) (T.fault_count tree.old)
+            (T.fault_count tree.new) }
     {
         let start = start_at(alloc, tree, &self.folder, &self.home, text.as_str());
         match start {
@@ -118,7 +127,8 @@ impl FindMode {
         requires clear { self.old.asking ≡ None }
         ensures act { IfOk result (λ act. act ≡ FindAct.Stays) }
         ensures asks { OnOk result (self.new ≡ with_line (Some (asks (Asked.Names start))) self.old) }
-        ensures lost { OnErr result (self.new ≡ with_line (Some (record { asked = Asked.Start; line = line })) self.old) }
+        ensures lost { OnErr result
+            (self.new ≡ with_line (Some (record { asked = Asked.Start; line = line })) self.old) }
     {
         let _folder = &self.folder;
         let next = names_line(alloc);
@@ -147,7 +157,8 @@ impl FindMode {
         requires clear { self.old.asking ≡ None }
         ensures leads { IfOk result (λ act. NamesLead start (pattern_in self.old.kind text) act
             (with_line (Some (record { asked = Asked.Names start; line = line })) self.old) self.new) }
-        ensures lost { OnErr result (self.new ≡ with_line (Some (record { asked = Asked.Names start; line = line })) self.old) }
+        ensures lost { OnErr result
+            (self.new ≡ with_line (Some (record { asked = Asked.Names start; line = line })) self.old) }
     {
         let _folder = &self.folder;
         let name = pattern_in(alloc, self.kind, text.as_str());
@@ -177,7 +188,8 @@ impl FindMode {
         requires clear { self.old.asking ≡ None }
         ensures leads { IfOk result (λ act. NamesLead start (Some name) act
             (with_line (Some (record { asked = Asked.Names start; line = line })) self.old) self.new) }
-        ensures lost { OnErr result (self.new ≡ with_line (Some (record { asked = Asked.Names start; line = line })) self.old) }
+        ensures lost { OnErr result
+            (self.new ≡ with_line (Some (record { asked = Asked.Names start; line = line })) self.old) }
     {
         let _folder = &self.folder;
         let next = content_line(alloc);

@@ -4,7 +4,8 @@ ghost use Rattle.ui_words.specs.BoxKeys.{line_reply as line_reply_of};
 ghost use Rattle.mc_dialogs.specs.InputKeys.{input_after, input_shut};
 ghost use Rattle.ui_viewer.specs.Motions.{LooksAtNothing, motion_of as motion_asked_for};
 ghost use Rattle.ui_viewer.specs.declared.act.ViewerAct.{ViewerAct as ViewerActType};
-ghost use Rattle.ui_viewer.specs.ViewerScreens.{AnswerLeads, LineLeads, MotionLeads, ReadsTree, wanted_by_reply};
+ghost use Rattle.ui_viewer.specs.ViewerScreens.{AnswerLeads, LineLeads, MotionLeads};
+ghost use Rattle.ui_viewer.specs.ViewerScreens.{ReadsTree, wanted_by_reply};
 
 use super::ViewerMode;
 use crate::act::ViewerAct;
@@ -26,12 +27,16 @@ impl ViewerMode {
         key: Key,
     ) -> Result<ViewerAct, NoMemory>
         requires clear { self.old.asking ≡ None }
-        ensures leads { IfOk result (λ act. LineLeads (line_reply_of (input_shut asking.line key)) asking.question
-            (input_after asking.line key) (T.contents tree.old) act (record self.old { asking = Some asking }) self.new) }
-        ensures still { LooksAtNothing (wanted_by_reply asking.question (line_reply_of (input_shut asking.line key))) self.old.viewer
+        ensures leads { IfOk result (λ act.
+            LineLeads (line_reply_of (input_shut asking.line key)) asking.question
+            (input_after asking.line key) (T.contents tree.old) act
+            (record self.old { asking = Some asking }) self.new) }
+        ensures still { LooksAtNothing
+            (wanted_by_reply asking.question (line_reply_of (input_shut asking.line key))) self.old.viewer
             → tree.new ≡ tree.old }
         ensures lost { OnErr result (self.new ≡ record self.old { asking = Some asking }) }
-        ensures reads { ReadsTree (λ (act : ViewerActType). act) result (T.contents tree.old) (T.contents tree.new) (T.fault_count tree.old) (T.fault_count tree.new) }
+        ensures reads { ReadsTree (λ (act : ViewerActType). act) result (T.contents tree.old)
+            (T.contents tree.new) (T.fault_count tree.old) (T.fault_count tree.new) }
     {
         let _title = &self.title;
         let Asking { question, line } = asking;
@@ -62,11 +67,14 @@ impl ViewerMode {
         text: Text,
     ) -> Result<ViewerAct, NoMemory>
         requires clear { self.old.asking ≡ None }
-        ensures leads { IfOk result (λ act. AnswerLeads (motion_asked_for asking.question text) (T.contents tree.old) act
+        ensures leads { IfOk result (λ act.
+            AnswerLeads (motion_asked_for asking.question text) (T.contents tree.old) act
             (record self.old { asking = Some asking }) self.new) }
-        ensures still { LooksAtNothing (motion_asked_for asking.question text) self.old.viewer → tree.new ≡ tree.old }
+        ensures still { LooksAtNothing (motion_asked_for asking.question text) self.old.viewer
+            → tree.new ≡ tree.old }
         ensures lost { OnErr result (self.new ≡ record self.old { asking = Some asking }) }
-        ensures reads { ReadsTree (λ (act : ViewerActType). act) result (T.contents tree.old) (T.contents tree.new) (T.fault_count tree.old) (T.fault_count tree.new) }
+        ensures reads { ReadsTree (λ (act : ViewerActType). act) result (T.contents tree.old)
+            (T.contents tree.new) (T.fault_count tree.old) (T.fault_count tree.new) }
     {
         match motion_of(asking.question, text) {
             None => Ok(ViewerAct::Stays),
@@ -87,7 +95,8 @@ impl ViewerMode {
             (record self.old { asking = Some asking }) self.new) }
         ensures still { LooksAtNothing (Some motion) self.old.viewer → tree.new ≡ tree.old }
         ensures lost { OnErr result (self.new ≡ record self.old { asking = Some asking }) }
-        ensures reads { ReadsTree (λ (act : ViewerActType). act) result (T.contents tree.old) (T.contents tree.new) (T.fault_count tree.old) (T.fault_count tree.new) }
+        ensures reads { ReadsTree (λ (act : ViewerActType). act) result (T.contents tree.old)
+            (T.contents tree.new) (T.fault_count tree.old) (T.fault_count tree.new) }
     {
         let _title = &self.title;
         let why = self.make(alloc, tree, motion);

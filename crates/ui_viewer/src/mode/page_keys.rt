@@ -3,7 +3,8 @@ ghost use Rattle.std.specs.Prelude.{◌≡◌, None, Some, IfOk, OnErr};
 ghost use Rattle.ui_viewer.specs.ViewerKeys.{viewer_command as command_of_key};
 ghost use Rattle.ui_viewer.specs.Motions.{LooksAtNothing};
 ghost use Rattle.ui_viewer.specs.declared.act.ViewerAct.{ViewerAct as ViewerActType};
-ghost use Rattle.ui_viewer.specs.ViewerScreens.{CommandLeads, MotionLeads, ReadsTree, act_of as act_with, wanted_by_command, with_question};
+ghost use Rattle.ui_viewer.specs.ViewerScreens.{CommandLeads, MotionLeads, ReadsTree};
+ghost use Rattle.ui_viewer.specs.ViewerScreens.{act_of as act_with, wanted_by_command, with_question};
 
 use super::ViewerMode;
 use crate::act::ViewerAct;
@@ -25,10 +26,13 @@ impl ViewerMode {
         key: Key,
     ) -> Result<ViewerAct, NoMemory>
         requires clear { self.old.asking ≡ None }
-        ensures leads { IfOk result (λ act. CommandLeads (command_of_key key) (T.contents tree.old) act self.old self.new) }
-        ensures still { LooksAtNothing (wanted_by_command (command_of_key key)) self.old.viewer → tree.new ≡ tree.old }
+        ensures leads { IfOk result (λ act.
+            CommandLeads (command_of_key key) (T.contents tree.old) act self.old self.new) }
+        ensures still { LooksAtNothing (wanted_by_command (command_of_key key)) self.old.viewer
+            → tree.new ≡ tree.old }
         ensures lost { OnErr result (self.new ≡ self.old) }
-        ensures reads { ReadsTree (λ (act : ViewerActType). act) result (T.contents tree.old) (T.contents tree.new) (T.fault_count tree.old) (T.fault_count tree.new) }
+        ensures reads { ReadsTree (λ (act : ViewerActType). act) result (T.contents tree.old)
+            (T.contents tree.new) (T.fault_count tree.old) (T.fault_count tree.new) }
     {
         let _title = &self.title;
         match viewer_command(key) {
@@ -67,14 +71,15 @@ impl ViewerMode {
         ensures leads { IfOk result (λ act. MotionLeads motion (T.contents tree.old) act self.old self.new) }
         ensures still { LooksAtNothing (Some motion) self.old.viewer → tree.new ≡ tree.old }
         ensures lost { OnErr result (self.new ≡ self.old) }
-        ensures reads { ReadsTree (λ (act : ViewerActType). act) result (T.contents tree.old) (T.contents tree.new) (T.fault_count tree.old) (T.fault_count tree.new) }
+        ensures reads { ReadsTree (λ (act : ViewerActType). act) result (T.contents tree.old)
+            (T.contents tree.new) (T.fault_count tree.old) (T.fault_count tree.new) }
     {
         let why = self.make(alloc, tree, motion)?;
         Ok(act_of(why))
     }
 
-    /// Makes a motion, and gives why it was refused, where it was: then the viewer stays where it stood, and a message says so. No
-    /// line asks any more.
+    /// Makes a motion, and gives why it was refused, where it was: then the viewer stays where it stood,
+    /// and a message says so. No line asks any more.
     pub(super) fn make<T: ReadTree>(
         &mut self,
         alloc: Global,
@@ -82,10 +87,12 @@ impl ViewerMode {
         motion: Motion,
     ) -> Result<Option<ViewError>, NoMemory>
         requires clear { self.old.asking ≡ None }
-        ensures leads { IfOk result (λ why. MotionLeads motion (T.contents tree.old) (act_with why) self.old self.new) }
+        ensures leads { IfOk result (λ why.
+            MotionLeads motion (T.contents tree.old) (act_with why) self.old self.new) }
         ensures still { LooksAtNothing (Some motion) self.old.viewer → tree.new ≡ tree.old }
         ensures lost { OnErr result (self.new ≡ self.old) }
-        ensures reads { ReadsTree act_with result (T.contents tree.old) (T.contents tree.new) (T.fault_count tree.old) (T.fault_count tree.new) }
+        ensures reads { ReadsTree act_with result (T.contents tree.old) (T.contents tree.new)
+            (T.fault_count tree.old) (T.fault_count tree.new) }
     {
         let _title = &self.title;
         match page_after(&mut self.viewer, alloc, tree, motion) {
