@@ -65,6 +65,8 @@ def signatures(text, name):
     for found in re.finditer(rf"\bfn {name}\b", text):
         lines, depth = [], 0
         for line in text[found.start() :].splitlines():
+            if line.lstrip().startswith("//"):
+                continue
             lines.append(line)
             begins_body = line.rstrip().endswith(("{", "{}")) and depth == 0 and not re.match(r"\s*(ensures|requires)", line)
             if begins_body or (line.rstrip().endswith(";") and depth + line.count("{") == line.count("}")):
