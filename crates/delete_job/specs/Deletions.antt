@@ -1,6 +1,6 @@
 -- The deletion of a thing with all that lies in it, as the history of its job tells of it: what a step may
 -- report where the deletion stands, and where it stands then; and what a report says of the tree's calls.
--- What it is to remove next is said in delete_job.
+-- What it is to remove next is said in Standing.
 use Rattle.std.specs.Prelude.{◌≡◌, ◌⊎◌, ℕ, true, false, List, Option, Some, None, Result, Ok, Err}
 use Rattle.mc_text.specs.Routes.{Route, is_prefix}
 use Rattle.tree_trait.specs.Calls.{RemoveFile, RemoveFolder, SyncFolder}

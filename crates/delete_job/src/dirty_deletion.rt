@@ -1,6 +1,6 @@
-//! The deletion of a thing with all that lies in it, a name a step, by the machine of `delete_job`: once
-//! each thing is gone or was left, each folder that was changed is synced, and only then is it finished, so
-//! that a finished deletion is on the disk.
+//! The deletion of a thing with all that lies in it, a name a step, by the machine beside: once each thing
+//! is gone or was left, each folder that was changed is synced, and only then is it finished, so that a
+//! finished deletion is on the disk.
 ghost use Rattle.std.specs.Prelude.{◌≡◌, Some};
 ghost use Rattle.mc_text.specs.Routes.{parent_of};
 ghost use Rattle.job_reports.specs.Paths.{folder_of};

@@ -1,5 +1,5 @@
 -- The setting of a mode as the work of a job: what a last step may report, and what that says of the tree's
--- calls. Its steps are said in mode_job.
+-- calls. Its steps are said in SettingSteps.
 use Rattle.std.specs.Prelude.{◌≡◌, false, Option, Some, None}
 use Rattle.tree_trait.specs.declared.calls.TreeError.{TreeError}
 use Rattle.tree_trait.specs.Change.{CallLog}
