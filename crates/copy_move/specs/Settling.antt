@@ -1,7 +1,7 @@
 -- Folders in which jobs changed names, and things that were given a mode, which no sync has brought onto
 -- the disk yet: what jobs leave there, and how a later job syncs them before it changes anything there, or
 -- on a mount that begins below it.
-use Rattle.std.specs.Prelude.{◌≡◌, ◌⊎◌, ℕ, Bool, true, false, ◌||◌, List, [], ◌∷◌, Option, Some, None}
+use Rattle.std.specs.Prelude.{◌≡◌, ◌⊎◌, Bool, true, false, ◌||◌, List, Option, Some, None}
 use Rattle.std.specs.Option.{option_map_or}
 use Rattle.mc_text.specs.Routes.{Route, is_prefix, same_path}
 use Rattle.tree_trait.specs.declared.file_system.FileSystem.{FileSystem}
@@ -10,8 +10,7 @@ use Rattle.tree_trait.specs.declared.calls.TreeError.TheVariants.{Missing}
 use Rattle.tree_trait.specs.Calls.{Stat}
 use Rattle.tree_trait.specs.FileSystem.{node}
 use Rattle.tree_trait.specs.Change.{CallLog, found_node}
-use Rattle.tree_trait.specs.Answers.{mount_number}
-use Rattle.tree_trait.specs.Refusals.{is_folder, refusal_of, mount_of}
+use Rattle.tree_trait.specs.Refusals.{is_folder, refusal_of}
 use Rattle.tree_trait.specs.CrashImages.{Among}
 use Rattle.job_reports.specs.declared.report.Did.{Did}
 use Rattle.job_reports.specs.Paths.{folder_of}
@@ -30,6 +29,7 @@ use Rattle.emptied_job.specs.Removals.{RemovalLeaves}
 use Rattle.emptied_job.specs.Removals as removals
 use Rattle.mode_job.specs.ModeSettings.{SettingLeaves}
 use Rattle.mode_job.specs.Settings as settings
+use Rattle.copy_move.specs.MountNumbers.{LiesOff}
 
 -- the folder that holds what a job places, removes, or gives a mode; of a move that of the target, which a
 -- renaming finds on the mount of the other
@@ -117,19 +117,6 @@ TellsFolder (Make m) did left folder log after = MakingLeaves m did left log aft
 TellsFolder (Move m) did left folder log after = (folder ≡ owed_folder m) × MovingLeaves m did left log after
 TellsFolder (SetMode s) did left folder log after = SettingLeaves s did left log after
 TellsFolder (RemoveEmptied r) did left folder log after = RemovalLeaves r did left log after
-
--- the number of the mount on which a folder lies
-abbrev pub IsMountOf : FileSystem → Route → ℕ → Type 0
-IsMountOf s folder number = number ≡ mount_number s.mounts (mount_of s folder)
-
--- a folder lies on another mount than this one
-abbrev pub LiesApart : FileSystem → Route → Route → Type 0
-LiesApart s folder kept = (number : ℕ) × IsMountOf s folder number × (IsMountOf s kept number → ⊥)
-
--- a folder lies on another mount than this one, and than each on the way to it
-abbrev pub LiesOff : FileSystem → Route → Route → Type 0
-LiesOff s [] kept = LiesApart s [] kept
-LiesOff s (name ∷ up) kept = LiesApart s (name ∷ up) kept × LiesOff s up kept
 
 -- What is dirty isn't owed by a job before its first change: it was removed; or it isn't owed on any mount,
 -- and lies on another one than the folders of what the job places, moves or removes, and than each on the

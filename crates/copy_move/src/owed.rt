@@ -8,9 +8,9 @@ ghost use Rattle.tree_trait.specs.Change.{current, found_node};
 ghost use Rattle.tree_trait.specs.Answers.{IfKnown};
 ghost use Rattle.tree_trait.specs.Refusals.{is_folder};
 ghost use Rattle.tree_trait.specs.CrashImages.{Among};
-ghost use Rattle.copy_move.specs.Settling.{IsElsewhere, IsGoneForFolder, IsMountOf};
-ghost use Rattle.copy_move.specs.Settling.{LiesApart, LiesOff, NoneForFolder, NoneOwed};
-ghost use Rattle.copy_move.specs.Settling.{changed_folder, left_folder, moves_folder};
+ghost use Rattle.copy_move.specs.Settling.{IsElsewhere, IsGoneForFolder, NoneForFolder};
+ghost use Rattle.copy_move.specs.Settling.{NoneOwed, changed_folder, left_folder, moves_folder};
+ghost use Rattle.copy_move.specs.MountNumbers.{IsMountOf, LiesApart, LiesOff};
 
 use crate::work::Work;
 use job_unsynced::Dirty;

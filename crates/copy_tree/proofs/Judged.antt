@@ -19,7 +19,7 @@ use Rattle.job_reports.specs.declared.report.Cause.TheVariants.{TargetKind}
 use Rattle.job_reports.specs.declared.report.Trouble.{Trouble}
 use Rattle.job_reports.specs.Questions.{question_on}
 use Rattle.job_reports.specs.Stops.{IsTroubleWithPath}
-use Rattle.copy_tree.specs.Asking.{IsReplaceable}
+use Rattle.copy_tree.specs.Replaceable.{IsReplaceable}
 use Rattle.copy_file.specs.Looking.{AreFactsOf, HasRange, IsThere, facts_in}
 use Rattle.copy_tree.specs.declared.copy.Stage.{Stage}
 use Rattle.copy_tree.specs.declared.looking.Taken.{Taken}

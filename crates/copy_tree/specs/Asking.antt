@@ -1,8 +1,6 @@
 -- What may be replaced: where what is copied itself is a file or a link, and a file or a link stands at its
 -- target, it is asked whether the one replaces the other, where no answer that stands decides that.
-use Rattle.std.specs.Prelude.{◌≡◌, ◌⊎◌, ⊤, Bool, true, None, Some}
-use Rattle.mc_text.specs.declared.kind.Kind.{Kind}
-use Rattle.mc_text.specs.declared.kind.Kind.TheVariants as kind
+use Rattle.std.specs.Prelude.{◌≡◌, ◌⊎◌, Bool, true, None, Some}
 use Rattle.tree_trait.specs.declared.file_system.FileSystem.{FileSystem}
 use Rattle.tree_trait.specs.declared.calls.Meta.{Meta}
 use Rattle.tree_trait.specs.declared.calls.TreeError.TheVariants as refused
@@ -16,13 +14,7 @@ use Rattle.job_answers.specs.declared.replies.Decision.{Decision}
 use Rattle.job_answers.specs.declared.replies.Decision.TheVariants.{Replace}
 use Rattle.job_answers.specs.declared.replies.Replies.{Replies}
 use Rattle.job_answers.specs.Decisions.{decision_on}
-
--- a thing of this kind may be replaced by a file or a link, where an answer says so, and replace one
-abbrev pub IsReplaceable : Kind → Type 0
-IsReplaceable kind.File = ⊤
-IsReplaceable kind.Link = ⊤
-IsReplaceable kind.Folder = ⊥
-IsReplaceable kind.Other = ⊥
+use Rattle.copy_tree.specs.Replaceable.{IsReplaceable}
 
 -- nothing stands at the target
 abbrev pub IsFree : FileSystem → Pair → Type 0

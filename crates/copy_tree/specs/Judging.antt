@@ -13,7 +13,7 @@ use Rattle.job_reports.specs.declared.report.Trouble.{Trouble}
 use Rattle.job_reports.specs.declared.question.Question.{Question}
 use Rattle.job_reports.specs.Questions.{question_on}
 use Rattle.job_reports.specs.Stops.{IsTroubleWithPath, out_of_memory_at}
-use Rattle.copy_tree.specs.Asking.{IsReplaceable}
+use Rattle.copy_tree.specs.Replaceable.{IsReplaceable}
 use Rattle.copy_file.specs.Looking.{facts_in}
 use Rattle.copy_tree.specs.declared.looking.Taken.{Taken}
 use Rattle.copy_tree.specs.declared.looking.Taken.TheVariants as taken

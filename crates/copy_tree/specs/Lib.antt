@@ -9,6 +9,7 @@ pub mod TreeCopySteps
 pub mod Taking
 pub mod Skipping
 pub mod Asking
+pub mod Replaceable
 pub mod Beginning
 pub mod Ending
 pub mod Falling

@@ -23,7 +23,7 @@ use Rattle.job_reports.specs.declared.report.Trouble.{Trouble}
 use Rattle.job_reports.specs.Paths.{folder_of}
 use Rattle.job_reports.specs.Reading.{IsRefusedWith, StatStops, TargetStops}
 use Rattle.job_reports.specs.Stops.{IsTroubleWithPath, out_of_memory_at}
-use Rattle.copy_tree.specs.Asking.{IsReplaceable}
+use Rattle.copy_tree.specs.Replaceable.{IsReplaceable}
 use Rattle.copy_file.specs.Looking.{AreFactsOf, HasRange}
 use Rattle.copy_tree.specs.declared.copy.Stage.{Stage}
 use Rattle.copy_tree.specs.declared.copy.Stage.TheVariants.{Begin}

@@ -1,7 +1,7 @@
 //! What comes of a thing that is no folder, by what stands at its target: only what is copied itself may
 //! replace a file or a link there, and it asks before.
 ghost use Rattle.std.specs.Prelude.{◌≡◌};
-ghost use Rattle.copy_tree.specs.Asking.{IsReplaceable};
+ghost use Rattle.copy_tree.specs.Replaceable.{IsReplaceable};
 ghost use Rattle.job_reports.specs.Stops.{IsTroubleWithPath};
 ghost use Rattle.copy_tree.specs.Judging.{ByAnswer, Judges, JudgesOnto, TakesSingle};
 

@@ -11,7 +11,7 @@ use Rattle.job_reports.specs.declared.job.Pair.{Pair}
 use Rattle.job_reports.specs.declared.report.Transfer.{Transfer}
 use Rattle.job_reports.specs.declared.report.Transfer.TheVariants.{ByCopy, ByMove}
 use Rattle.job_reports.specs.Jobs.{is_link_text}
-use Rattle.session_entries.specs.Sources.{child_in, children_in}
+use Rattle.session_entries.specs.SourcesLeft.{child_in, children_in}
 use Rattle.copy_job.specs.Standing.{begun_subtree_copy}
 use Rattle.copy_tree.specs.Taking.{AreShort}
 use Rattle.copy_move.specs.declared.work.Work.{Work}

@@ -14,7 +14,7 @@ use Rattle.job_reports.specs.declared.report.Did.{Did}
 use Rattle.job_reports.specs.declared.report.Did.TheVariants.{Kept, Skipped, Barrier, Asked, Merges, Moved, Troubled, Ended}
 use Rattle.job_reports.specs.declared.report.Ending.TheVariants.{Finished}
 use Rattle.job_reports.specs.Paths.{folder_of}
-use Rattle.session_entries.specs.Sources.{children_in}
+use Rattle.session_entries.specs.SourcesLeft.{children_in}
 use Rattle.copy_job.specs.Leaving.{owes_at_end}
 use Rattle.copy_job.specs.Merged.{IsOver}
 use Rattle.copy_job.specs.Standing.{SubtreeCopying}

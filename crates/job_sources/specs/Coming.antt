@@ -6,7 +6,7 @@ use Rattle.job_reports.specs.declared.job.Pair.{Pair}
 use Rattle.job_reports.specs.declared.report.Transfer.{Transfer}
 use Rattle.job_reports.specs.declared.report.Transfer.TheVariants.{ByCopy, ByMove}
 use Rattle.job_reports.specs.Jobs.{is_workable}
-use Rattle.session_entries.specs.Sources.{children_in}
+use Rattle.session_entries.specs.SourcesLeft.{children_in}
 use Rattle.job_sources.specs.declared.left.Left.{Left}
 use Rattle.job_sources.specs.declared.left.Left.TheVariants.{Children, Planned}
 

@@ -16,7 +16,7 @@ use Rattle.job_reports.specs.Jobs.{is_workable}
 use Rattle.job_reports.specs.Reports.{ends}
 use Rattle.copy_folders.specs.FolderCopying.{is_dirty}
 use Rattle.session_entries.specs.declared.history.Event.TheVariants.{Step, Next}
-use Rattle.session_entries.specs.Sources.{left_by}
+use Rattle.session_entries.specs.SourcesLeft.{left_by}
 use Rattle.copy_job.specs.Leaving.{owes_at_end}
 use Rattle.tree_walk.specs.Places.{is_empty}
 use Rattle.copy_tree.specs.declared.item.ItemAtWork.{ItemAtWork}

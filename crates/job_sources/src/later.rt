@@ -3,7 +3,7 @@
 ghost use Rattle.std.specs.Prelude.{◌≡◌, ◌∷◌, ◌++◌, [], IfOk, OnErr, OnOk, false, reverse, true};
 ghost use Rattle.std.specs.List.{list_all};
 ghost use Rattle.job_reports.specs.Jobs.{is_workable};
-ghost use Rattle.session_entries.specs.Sources.{children_in, pair_within};
+ghost use Rattle.session_entries.specs.SourcesLeft.{children_in, pair_within};
 ghost use Rattle.job_sources.specs.Coming.{has_names, is_apart, is_sound};
 ghost use Rattle.job_sources.specs.Coming.{leaves_none, sources_at, sources_from};
 ghost use Rattle.job_sources.specs.Turning.{MayLeave, Takes};

@@ -2,7 +2,7 @@
 ghost use Rattle.std.specs.Prelude.{◌≡◌, ◌⊎◌, [], None, OnErr, OnOk, Some, if◌then◌else◌, true};
 ghost use Rattle.job_reports.specs.Jobs.{is_workable};
 ghost use Rattle.job_reports.specs.Reports.{ends};
-ghost use Rattle.session_entries.specs.Sources.{left_by};
+ghost use Rattle.session_entries.specs.SourcesLeft.{left_by};
 ghost use Rattle.job_sources.specs.Turning.{GoesOn, MayFollow, Reports, RunsShort, Turns, finishes, merges};
 
 use crate::later::Later;

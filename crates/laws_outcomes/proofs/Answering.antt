@@ -35,7 +35,8 @@ use Rattle.copy_link.specs.LinkCopying as link
 use Rattle.copy_link.specs.LinkCopying.{LinkCopying}
 use Rattle.copy_link.specs.declared.stage.Stage.TheVariants as link_stage
 use Rattle.copy_tree.specs.Asking as tops
-use Rattle.copy_tree.specs.Asking.{IsOpen, IsReplaceable}
+use Rattle.copy_tree.specs.Asking.{IsOpen}
+use Rattle.copy_tree.specs.Replaceable.{IsReplaceable}
 use Rattle.copy_tree.specs.InPlace.{IsInPlace, IsMoved}
 use Rattle.copy_tree.specs.Parts.{IsPartPlace}
 use Rattle.copy_tree.specs.Progress.{link_progress}

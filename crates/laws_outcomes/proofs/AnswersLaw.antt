@@ -46,7 +46,8 @@ use Rattle.laws_sessions.proofs.Knowing.{IsKept, HistoryFacts}
 use Rattle.laws_sessions.proofs.Moments.{log_of}
 use Rattle.laws_sessions.proofs.Prefixes.{replayed_more, told_of}
 use Rattle.laws_sessions.proofs.Sources.{item_in, making_item}
-use Rattle.laws_outcomes.specs.Answered.{AnsweredLaw, IsAsAnswered, IsMovedAsAnswered, IsRemovedIfEmpty, asks_still, replies_said}
+use Rattle.laws_outcomes.specs.Answered.{IsAsAnswered, IsMovedAsAnswered, IsRemovedIfEmpty, asks_still, replies_said}
+use Rattle.laws_outcomes.specs.OutcomeLaws.{AnsweredLaw}
 use Rattle.laws_outcomes.specs.Begun.{tree_begun}
 use Rattle.laws_outcomes.specs.Outcomes.{passed_over}
 use Rattle.laws_outcomes.proofs.AnswersSaid.{IsSaid, JobsSaid, traced_said}

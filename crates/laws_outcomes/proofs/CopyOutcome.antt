@@ -37,7 +37,8 @@ use Rattle.copy_tree.specs.Progress.{progress}
 use Rattle.copy_tree.specs.Reports.{IsToldAs}
 use Rattle.copy_tree.specs.Standing.{Seen, due, due_at, pair_of}
 use Rattle.copy_tree.specs.TreeCopySteps.{CopySteps, TakesNext, WorksOn, at_end, is_top, link_begun}
-use Rattle.copy_tree.specs.Asking.{IsOpen, IsReplaceable}
+use Rattle.copy_tree.specs.Asking.{IsOpen}
+use Rattle.copy_tree.specs.Replaceable.{IsReplaceable}
 use Rattle.copy_tree.specs.Taking.{SourceIs}
 use Rattle.tree_walk.specs.Places.{is_empty}
 use Rattle.copy_tree.specs.Parts.{IsPartPlace}

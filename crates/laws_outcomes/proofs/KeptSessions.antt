@@ -42,7 +42,8 @@ use Rattle.laws_sessions.proofs.Sources.{item_in, making_item, tells_same}
 use Rattle.laws_sessions.proofs.Stepped.{more}
 use Rattle.laws_sessions.proofs.Turns.{Turned, one_turned, turned_id, turned_to}
 use Rattle.laws_outcomes.specs.Begun.{begun_after, tree_begun}
-use Rattle.laws_outcomes.specs.Keeps.{KeptLaw, has_kept, keeps_after, keeps_by}
+use Rattle.laws_outcomes.specs.Keeps.{has_kept, keeps_after, keeps_by}
+use Rattle.laws_outcomes.specs.OutcomeLaws.{KeptLaw}
 use Rattle.laws_outcomes.specs.Outcomes.{Finishes}
 use Rattle.laws_outcomes.proofs.BegunTrees.{begun_more}
 use Rattle.laws_outcomes.proofs.Elsewhere.{ended_on}

@@ -22,7 +22,7 @@ use Rattle.job_reports.specs.declared.job.Job.TheVariants as plan
 use Rattle.job_reports.specs.declared.job.Pair.{Pair}
 use Rattle.job_reports.specs.declared.report.Did.TheVariants.{Merges, Ended}
 use Rattle.job_reports.specs.declared.report.Ending.TheVariants.{Finished}
-use Rattle.session_entries.specs.Sources.{AreInTurn}
+use Rattle.session_entries.specs.SourcesLeft.{AreInTurn}
 use Rattle.session_entries.specs.declared.history.Event.TheVariants.{Began, Step, Next}
 use Rattle.session_entries.specs.declared.history.Entry.{Entry}
 use Rattle.copy_tree.specs.Taking.{AreShort, IsShort, IsTaken}

@@ -26,7 +26,7 @@ use Rattle.job_reports.specs.declared.report.Did.TheVariants.{Barrier, Ended, Me
 use Rattle.job_reports.specs.declared.report.Ending.TheVariants.{Finished}
 use Rattle.job_reports.specs.declared.report.Transfer.TheVariants.{ByMove}
 use Rattle.job_reports.specs.Jobs as jobs
-use Rattle.session_entries.specs.Sources.{AreInTurn}
+use Rattle.session_entries.specs.SourcesLeft.{AreInTurn}
 use Rattle.session_entries.specs.declared.history.Event.TheVariants.{Began, Next, Step}
 use Rattle.session_entries.specs.declared.history.Entry.{Entry}
 use Rattle.copy_tree.specs.Taking.{AreShort, IsShort}

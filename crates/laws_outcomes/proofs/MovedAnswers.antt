@@ -23,7 +23,7 @@ use Rattle.job_answers.specs.Decisions.{decision_on}
 use Rattle.job_answers.specs.Questions.{placing_at}
 use Rattle.move_job.specs.Movings.{Moving, MovingCalls, Tells}
 use Rattle.move_job.specs.Takings.{IsDecided, MayMove, Stands}
-use Rattle.copy_tree.specs.Asking.{IsReplaceable}
+use Rattle.copy_tree.specs.Replaceable.{IsReplaceable}
 use Rattle.laws_sessions.proofs.OwedModes.{ShowsTree}
 use Rattle.laws_outcomes.specs.Answered.{IsMergedWhole, IsMoveQuestion, IsMovedAsAnswered, IsSizedAs}
 use Rattle.laws_outcomes.proofs.Answering.{none_there}

@@ -44,7 +44,8 @@ use Rattle.laws_sessions.proofs.Sources.{item_in, tells_same}
 use Rattle.laws_sessions.proofs.Stepped.{more}
 use Rattle.laws_sessions.proofs.Turns.{Turned, one_turned, turned_id, turned_to}
 use Rattle.laws_outcomes.specs.Begun.{begun_after, tree_begun}
-use Rattle.laws_outcomes.specs.Outcomes.{Finishes, IsOutcome, OutcomeLaw, passed_after, passed_in, passed_over}
+use Rattle.laws_outcomes.specs.Outcomes.{Finishes, IsOutcome, passed_after, passed_in, passed_over}
+use Rattle.laws_outcomes.specs.OutcomeLaws.{OutcomeLaw}
 use Rattle.laws_outcomes.proofs.BegunTrees.{begun_more}
 use Rattle.laws_outcomes.proofs.CopyOutcome.{tree_ends}
 use Rattle.laws_outcomes.proofs.Deletions.{deletion_ends}

@@ -20,7 +20,8 @@ use Rattle.session_entries.specs.Sources.{IsDoneWith}
 use Rattle.laws_sessions.specs.Replayed.{replayed_tree}
 use Rattle.laws_sessions.specs.Traces.{IsTraced, Stand}
 use Rattle.laws_sessions.proofs.Intact.{prefix_append}
-use Rattle.laws_outcomes.specs.AllSources.{AllSourcesLaw, GoesOn, IsLeftSince, concerns, is_elsewhere}
+use Rattle.laws_outcomes.specs.AllSources.{GoesOn, IsLeftSince, concerns, is_elsewhere}
+use Rattle.laws_outcomes.specs.OutcomeLaws.{AllSourcesLaw}
 use Rattle.laws_outcomes.specs.Begun.{begun_after, tree_begun}
 use Rattle.laws_outcomes.specs.Outcomes.{IsOutcome, as_copied}
 use Rattle.laws_outcomes.specs.Untouched.{touches}

@@ -1,13 +1,11 @@
 -- What a job leaves of all its sources: with each it is done at another moment, and what it did then is
 -- still so at its end, where no later source touches it; in the words of the history alone. Histories
 -- stand newest first here.
-use Rattle.std.specs.Prelude.{◌≡◌, ◌⊎◌, ℕ, ◌==◌, ◌||◌, Bool, true, false, not}
+use Rattle.std.specs.Prelude.{◌≡◌, ◌⊎◌, ℕ, ◌||◌, Bool, true, false, not}
 use Rattle.std.specs.Prelude.{List, [], ◌∷◌, Option, Some, if◌then◌else◌}
 use Rattle.std.specs.Option.{option_map_or}
 use Rattle.mc_text.specs.Routes.{Route, is_prefix}
-use Rattle.tree_trait.specs.Shape.{IsTree}
-use Rattle.tree_trait.specs.Change.{CallLog, current}
-use Rattle.tree_trait.specs.CrashImages.{all_settled}
+use Rattle.tree_trait.specs.Change.{CallLog}
 use Rattle.job_reports.specs.declared.job.Job.{Job}
 use Rattle.job_reports.specs.Jobs.{ItemOfJob, Copies, Moves, Removes, Makes, MakesLink, Sets, RemovesEmptied}
 use Rattle.session_entries.specs.declared.history.Event.{Event}
@@ -18,7 +16,6 @@ use Rattle.session_entries.specs.declared.history.Entry.{Entry}
 use Rattle.session_entries.specs.Entries.{IsMoment}
 use Rattle.session_entries.specs.LiveJobs.{live_item, live_jobs}
 use Rattle.laws_sessions.specs.Replayed.{replayed_tree}
-use Rattle.laws_sessions.specs.Traces.{IsTraced, Stand}
 use Rattle.laws_outcomes.specs.Begun.{tree_begun}
 use Rattle.laws_outcomes.specs.Outcomes.{Finishes, IsOutcome, passed_over}
 use Rattle.laws_outcomes.specs.Untouched.{touches}
@@ -76,8 +73,3 @@ LeavesAll opening now newest =
     → (touches last path ≡ false) × IsLeftSince id path (first ∷ before) older)
     → IsOutcome item (passed_over id before) (tree_begun opening now id before)
     (replayed_tree opening now older)
-
-abbrev pub AllSourcesLaw : Type 0
-AllSourcesLaw = (opening now : CallLog) (newest : List Entry) (stand : Stand)
-    → IsTree (current opening) → all_settled opening.changes ≡ true → IsTraced opening newest stand now
-    → LeavesAll opening now newest

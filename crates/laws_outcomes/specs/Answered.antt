@@ -1,7 +1,7 @@
 -- What stands at the target of a copy or a move is replaced, kept or asked about only as was answered, a
 -- folder that is merged is merged whole, and one that was emptied is removed only where nothing lies in it;
 -- in the words of the history alone. Histories stand newest first here.
-use Rattle.std.specs.Prelude.{◌≡◌, ◌⊎◌, ◌↔◌, ℕ, ◌<◌, ⊤, ◌==◌, Bool, true, false, ◌&&◌, not}
+use Rattle.std.specs.Prelude.{◌≡◌, ◌⊎◌, ◌↔◌, ℕ, ◌<◌, ⊤, Bool, true, false, ◌&&◌, not}
 use Rattle.std.specs.Prelude.{if◌then◌else◌, List, [], ◌∷◌, length, is_some, Some, None}
 use Rattle.std.specs.Option.{option_map}
 use Rattle.mc_text.specs.Routes.{Route}
@@ -9,9 +9,8 @@ use Rattle.mc_text.specs.declared.kind.Kind.{Kind}
 use Rattle.tree_trait.specs.FileSystem.{Value, View}
 use Rattle.tree_trait.specs.Answers.{IsAscending}
 use Rattle.tree_trait.specs.Refusals.{folder_kind}
-use Rattle.tree_trait.specs.Shape.{IsTree}
-use Rattle.tree_trait.specs.Change.{CallLog, current}
-use Rattle.tree_trait.specs.CrashImages.{Among, all_settled}
+use Rattle.tree_trait.specs.Change.{CallLog}
+use Rattle.tree_trait.specs.CrashImages.{Among}
 use Rattle.job_reports.specs.declared.answer.Answer.{Answer}
 use Rattle.job_reports.specs.declared.answer.Answer.TheVariants.{Yes, No, All, Update, Nothing}
 use Rattle.job_reports.specs.declared.answer.Answer.TheVariants.{SizeDiffers, Retry, Skip, SkipAll, Abort}
@@ -27,7 +26,7 @@ use Rattle.job_reports.specs.Paths.{folder_of}
 use Rattle.job_answers.specs.declared.replies.Decision.TheVariants.{Ask, Keep, Replace}
 use Rattle.job_answers.specs.declared.replies.Replies.{Replies}
 use Rattle.job_answers.specs.Decisions.{decision_on, no_replies, with_reply}
-use Rattle.copy_tree.specs.Asking.{IsReplaceable}
+use Rattle.copy_tree.specs.Replaceable.{IsReplaceable}
 use Rattle.session_entries.specs.declared.history.Event.{Event}
 use Rattle.session_entries.specs.declared.history.Event.TheVariants.{Key, Look, Sought, Order}
 use Rattle.session_entries.specs.declared.history.Event.TheVariants.{Step, Next, Closed}
@@ -37,7 +36,6 @@ use Rattle.session_entries.specs.declared.history.Entry.{Entry}
 use Rattle.session_entries.specs.Entries.{IsMoment, is_closed}
 use Rattle.session_entries.specs.LiveJobs.{live_item, live_jobs}
 use Rattle.laws_sessions.specs.Replayed.{replayed_tree}
-use Rattle.laws_sessions.specs.Traces.{IsTraced, Stand}
 
 -- the report is a question
 abbrev pub asks_by : Did → Bool
@@ -234,8 +232,3 @@ pub record FollowsAnswers (opening now : CallLog) (newest : List Entry) : Type 0
   pub copies : Follows Copies IsAsAnswered opening now newest
   pub moves : Follows Moves IsMovedAsAnswered opening now newest
   pub emptied : FollowsContents opening now newest
-
-abbrev pub AnsweredLaw : Type 0
-AnsweredLaw = (opening now : CallLog) (newest : List Entry) (stand : Stand)
-    → IsTree (current opening) → all_settled opening.changes ≡ true → IsTraced opening newest stand now
-    → FollowsAnswers opening now newest

@@ -1,10 +1,8 @@
 -- Where a job keeps the file or the link at its target, or the folder there that a folder is merged with,
 -- it has changed nothing; in the words of the history alone. Histories stand newest first here.
-use Rattle.std.specs.Prelude.{◌≡◌, ℕ, ◌==◌, Bool, true, false, if◌then◌else◌, List, [], ◌∷◌}
+use Rattle.std.specs.Prelude.{◌≡◌, ℕ, Bool, true, false, if◌then◌else◌, List, [], ◌∷◌}
 use Rattle.mc_text.specs.Routes.{Route}
-use Rattle.tree_trait.specs.Shape.{IsTree}
-use Rattle.tree_trait.specs.Change.{CallLog, current}
-use Rattle.tree_trait.specs.CrashImages.{all_settled}
+use Rattle.tree_trait.specs.Change.{CallLog}
 use Rattle.job_reports.specs.declared.report.Did.{Did}
 use Rattle.job_reports.specs.declared.report.Did.TheVariants.{Began, Chunk, Placed, Removed, Made}
 use Rattle.job_reports.specs.declared.report.Did.TheVariants.{Set, Kept, Skipped, Cleaned, Barrier}
@@ -17,7 +15,6 @@ use Rattle.session_entries.specs.declared.history.Event.TheVariants as event
 use Rattle.session_entries.specs.declared.history.Entry.{Entry}
 use Rattle.session_entries.specs.Entries.{IsMoment}
 use Rattle.laws_sessions.specs.Replayed.{replayed_tree}
-use Rattle.laws_sessions.specs.Traces.{IsTraced, Stand}
 use Rattle.laws_outcomes.specs.Outcomes.{Finishes}
 use Rattle.laws_outcomes.specs.Begun.{tree_begun}
 
@@ -64,8 +61,3 @@ LeavesKept opening now newest =
     → Finishes e older id (Copies source target) → IsMoment newest (e ∷ older) (e ∷ older) e.calls
     → has_kept id older ≡ true
     → replayed_tree opening now older path ≡ tree_begun opening now id older path
-
-abbrev pub KeptLaw : Type 0
-KeptLaw = (opening now : CallLog) (newest : List Entry) (stand : Stand)
-    → IsTree (current opening) → all_settled opening.changes ≡ true → IsTraced opening newest stand now
-    → LeavesKept opening now newest

@@ -3,4 +3,5 @@ pub mod Answered
 pub mod Begun
 pub mod Keeps
 pub mod Outcomes
+pub mod OutcomeLaws
 pub mod Untouched

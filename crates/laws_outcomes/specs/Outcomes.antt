@@ -1,15 +1,13 @@
 -- What a finished job leaves: all that it was to do, but for what it passed over; in the words of the
 -- history alone. Histories stand newest first here.
-use Rattle.std.specs.Prelude.{◌≡◌, ℕ, ◌==◌, true, false, if◌then◌else◌}
-use Rattle.std.specs.Prelude.{List, [], ◌∷◌, ◌++◌, Option, Some, None}
+use Rattle.std.specs.Prelude.{◌≡◌, ℕ, false, if◌then◌else◌, List, [], ◌∷◌, ◌++◌, Option, Some, None}
 use Rattle.std.specs.Option.{option_map}
 use Rattle.mc_text.specs.Routes.{Route, is_prefix}
 use Rattle.mc_text.specs.declared.kind.Kind.{Kind}
 use Rattle.mc_text.specs.declared.kind.Kind.TheVariants.{File, Folder, Link, Other}
 use Rattle.tree_trait.specs.FileSystem.{Value, View}
-use Rattle.tree_trait.specs.Shape.{IsTree}
-use Rattle.tree_trait.specs.Change.{CallLog, current}
-use Rattle.tree_trait.specs.CrashImages.{Among, all_settled}
+use Rattle.tree_trait.specs.Change.{CallLog}
+use Rattle.tree_trait.specs.CrashImages.{Among}
 use Rattle.job_reports.specs.declared.report.Did.{Did}
 use Rattle.job_reports.specs.declared.report.Did.TheVariants.{Began, Chunk, Placed, Removed, Made}
 use Rattle.job_reports.specs.declared.report.Did.TheVariants.{Set, Kept, Skipped, Cleaned, Barrier}
@@ -24,7 +22,6 @@ use Rattle.session_entries.specs.Entries.{IsMoment}
 use Rattle.session_entries.specs.LiveJobs.{live_jobs, live_item}
 use Rattle.session_entries.specs.Sources.{IsDoneWith}
 use Rattle.laws_sessions.specs.Replayed.{new_folder, new_link, nothing_there, placed_copy, replayed_tree}
-use Rattle.laws_sessions.specs.Traces.{IsTraced, Stand}
 use Rattle.laws_outcomes.specs.Begun.{tree_begun}
 
 -- What was passed over once a job has reported this: what it skipped, and a folder that is merged with that
@@ -169,8 +166,3 @@ Leaves Outcome opening now newest =
     (e : Entry) (older : List Entry) (id : ℕ) (item : ItemOfJob)
     → Finishes e older id item → IsMoment newest (e ∷ older) (e ∷ older) e.calls
     → Outcome item (passed_over id older) (tree_begun opening now id older) (replayed_tree opening now older)
-
-abbrev pub OutcomeLaw : Type 0
-OutcomeLaw = (opening now : CallLog) (newest : List Entry) (stand : Stand)
-    → IsTree (current opening) → all_settled opening.changes ≡ true → IsTraced opening newest stand now
-    → Leaves IsOutcome opening now newest

@@ -1,15 +1,12 @@
 -- While a job is live nothing changes but what it may touch; in the words of the history alone. Histories
 -- stand newest first here.
-use Rattle.std.specs.Prelude.{◌≡◌, ℕ, ◌||◌, Bool, true, false, List, ◌∷◌}
+use Rattle.std.specs.Prelude.{◌≡◌, ℕ, ◌||◌, Bool, false, List, ◌∷◌}
 use Rattle.mc_text.specs.Routes.{Route, is_prefix, same_path}
-use Rattle.tree_trait.specs.Shape.{IsTree}
-use Rattle.tree_trait.specs.Change.{CallLog, current}
-use Rattle.tree_trait.specs.CrashImages.{all_settled}
+use Rattle.tree_trait.specs.Change.{CallLog}
 use Rattle.job_reports.specs.Jobs.{ItemOfJob, Copies, Moves, Removes, Makes, MakesLink, Sets, RemovesEmptied}
 use Rattle.session_entries.specs.declared.history.Entry.{Entry}
 use Rattle.session_entries.specs.Entries.{IsMoment}
 use Rattle.laws_sessions.specs.Replayed.{replayed_tree}
-use Rattle.laws_sessions.specs.Traces.{IsTraced, Stand}
 use Rattle.laws_outcomes.specs.Begun.{tree_begun}
 use Rattle.laws_outcomes.specs.Outcomes.{Finishes}
 
@@ -31,8 +28,3 @@ LeavesAlone opening now newest =
     (e : Entry) (older : List Entry) (id : ℕ) (item : ItemOfJob) (path : Route)
     → Finishes e older id item → IsMoment newest (e ∷ older) (e ∷ older) e.calls → touches item path ≡ false
     → replayed_tree opening now older path ≡ tree_begun opening now id older path
-
-abbrev pub UntouchedLaw : Type 0
-UntouchedLaw = (opening now : CallLog) (newest : List Entry) (stand : Stand)
-    → IsTree (current opening) → all_settled opening.changes ≡ true → IsTraced opening newest stand now
-    → LeavesAlone opening now newest

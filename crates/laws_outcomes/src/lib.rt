@@ -2,11 +2,8 @@
 //! are laws of the definitions in `specs/`.
 #![tactic(auto)]
 
-ghost use Rattle.laws_outcomes.specs.AllSources.{AllSourcesLaw};
-ghost use Rattle.laws_outcomes.specs.Answered.{AnsweredLaw};
-ghost use Rattle.laws_outcomes.specs.Keeps.{KeptLaw};
-ghost use Rattle.laws_outcomes.specs.Outcomes.{OutcomeLaw};
-ghost use Rattle.laws_outcomes.specs.Untouched.{UntouchedLaw};
+ghost use Rattle.laws_outcomes.specs.OutcomeLaws.{AllSourcesLaw, AnsweredLaw};
+ghost use Rattle.laws_outcomes.specs.OutcomeLaws.{KeptLaw, OutcomeLaw, UntouchedLaw};
 
 /// Where a job is done with one of its sources, all that it was to do with it is done, but for what it
 /// passed over; and that is still so at its end, where no later one touches what concerns that source.

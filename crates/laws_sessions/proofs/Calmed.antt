@@ -29,10 +29,12 @@ use Rattle.mode_job.specs.Settings as settings
 use Rattle.copy_move.specs.Jobs.{Running, WorkTells, is_fresh}
 use Rattle.copy_move.specs.Settling.{NoneOwed, changed_folder}
 use Rattle.copy_move.specs.JobStepReports.{SyncsOwed}
-use Rattle.laws_sessions.specs.Calmed.{CalmLaw, HasBegun, changes_name, changes_thing}
+use Rattle.laws_sessions.specs.Calmed.{HasBegun, changes_name, changes_thing}
+use Rattle.laws_sessions.specs.CalmedLaw.{CalmLaw}
 use Rattle.laws_sessions.specs.Doubt.{name_waits, node_waits}
 use Rattle.session_entries.specs.LiveJobs.{live_jobs, live_item}
-use Rattle.laws_sessions.specs.Owed.{IsApart, IsOwed}
+use Rattle.laws_sessions.specs.Owed.{IsOwed}
+use Rattle.laws_sessions.specs.ApartFolders.{IsApart}
 use Rattle.session_entries.specs.Named.{begins_change, has_changed, left_parts, named_after, named_parts, names, names_path}
 use Rattle.laws_sessions.specs.Replayed.{log_prefix}
 use Rattle.session_entries.specs.Entries.{IsMoment, calls_in}

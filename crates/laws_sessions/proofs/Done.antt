@@ -27,7 +27,8 @@ use Rattle.session_entries.specs.Named.{has_changed, named_after, named_parts, I
 use Rattle.laws_sessions.specs.Replayed.{log_prefix, replayed_tree}
 use Rattle.session_entries.specs.Entries.{IsMoment, calls_in}
 use Rattle.laws_sessions.specs.Safe.{IsPart}
-use Rattle.laws_sessions.specs.Staying.{DoneLaw, HasFinished, IsNoMatterOf, may_change_path}
+use Rattle.laws_sessions.specs.Staying.{HasFinished, IsNoMatterOf, may_change_path}
+use Rattle.laws_sessions.specs.StayingLaw.{DoneLaw}
 use Rattle.laws_sessions.specs.Traces.{EventLeads, IsJob, IsTraced, Stand, StepLeads, WorkLeads}
 use Rattle.laws_sessions.proofs.Prefixes.{told_of}
 use Rattle.laws_sessions.proofs.Going.{only_job}

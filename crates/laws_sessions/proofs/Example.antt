@@ -36,7 +36,7 @@ use Rattle.copy_move.specs.Jobs.{Running, halt_of}
 use Rattle.mode_job.specs.SettingSteps.{sync_of}
 use Rattle.laws_sessions.specs.Calmed.{HasBegun, changes_name}
 use Rattle.laws_sessions.specs.Doubt.{is_unsettled, name_waits}
-use Rattle.laws_sessions.specs.Owed.{IsApart}
+use Rattle.laws_sessions.specs.ApartFolders.{IsApart}
 use Rattle.laws_sessions.specs.Replayed.{earlier_tree, log_prefix, replayed_tree}
 use Rattle.laws_sessions.specs.Traces.{IsTraced, nothing_live}
 use Rattle.laws_sessions.proofs.Calmed.{calm_law}

@@ -35,7 +35,8 @@ use Rattle.copy_move.specs.declared.work.Work.TheVariants.{Copy, Delete, Make, M
 use Rattle.copy_move.specs.Jobs.{CallsOn, Running, TellsOn, WorkCalls, WorkTells, course_after, is_fresh}
 use Rattle.copy_move.specs.Settling.{NoneOwed, WorkLeaves, changed_folder}
 use Rattle.copy_move.specs.JobStepReports.{LeavesDirty}
-use Rattle.laws_sessions.specs.Owed.{FirstChangeLaw, IsApart, IsOwed, waits_in}
+use Rattle.laws_sessions.specs.Owed.{FirstChangeLaw, IsOwed, waits_in}
+use Rattle.laws_sessions.specs.ApartFolders.{IsApart}
 use Rattle.laws_sessions.specs.Traces.{IsTraced, IsUnclaimed, Stand, WorkLeads}
 use Rattle.laws_sessions.proofs.Histories.{IsReached, traced_reached}
 use Rattle.laws_sessions.proofs.JobKnows.{KnowsAfter, WorkKnows, calm_in, none_on}

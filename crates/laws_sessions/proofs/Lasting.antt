@@ -2,7 +2,7 @@
 use Rattle.std.proofs.Common.{inl}
 use Rattle.session_entries.specs.Entries.{calls_in}
 use Rattle.laws_sessions.specs.Replayed.{log_prefix}
-use Rattle.laws_sessions.specs.Staying.{FinishedStaysLaw}
+use Rattle.laws_sessions.specs.StayingLaw.{FinishedStaysLaw}
 use Rattle.laws_sessions.proofs.FinishedPaths.{finished_law}
 use Rattle.laws_sessions.proofs.Holding.{holds_since}
 

@@ -19,7 +19,7 @@ use Rattle.copy_move.specs.declared.work.Work.{Work}
 use Rattle.copy_move.specs.Jobs.{Running}
 use Rattle.laws_sessions.specs.Doubt.{node_waits}
 use Rattle.laws_sessions.specs.Replayed.{log_prefix}
-use Rattle.laws_sessions.specs.Staying.{StaysLaw}
+use Rattle.laws_sessions.specs.StayingLaw.{StaysLaw}
 use Rattle.laws_sessions.specs.Traces.{EventLeads, IsTraced, Stand, StepLeads}
 use Rattle.laws_sessions.proofs.Going.{only_job}
 use Rattle.laws_sessions.proofs.Histories.{IsReached, traced_reached}

@@ -17,7 +17,8 @@ use Rattle.laws_sessions.specs.Doubt.{way_waits, name_waits}
 use Rattle.session_entries.specs.LiveJobs.{LiveJob, IsLivePart, live_jobs}
 use Rattle.laws_sessions.specs.Replayed.{log_prefix, replayed_tree}
 use Rattle.session_entries.specs.Entries.{IsMoment, calls_in}
-use Rattle.laws_sessions.specs.Safe.{IsSafe, ReplayLaw, SessionLaw}
+use Rattle.laws_sessions.specs.Safe.{IsSafe}
+use Rattle.laws_sessions.specs.SafeLaw.{ReplayLaw, SessionLaw}
 use Rattle.laws_sessions.specs.Traces.{Follows, IsTraced, Stand}
 use Rattle.laws_sessions.proofs.Prefixes.{folders_told, told_more, told_of, within_more}
 use Rattle.laws_sessions.proofs.Histories.{IsEntered, IsReached, enters, traced_reached}

@@ -18,7 +18,7 @@ use Rattle.copy_file.specs.Copying.{Places}
 use Rattle.copy_file.specs.Looking.{IsReady, file_at}
 use Rattle.tree_walk.specs.Places.{is_empty}
 use Rattle.copy_tree.specs.Asking as asking
-use Rattle.copy_tree.specs.Asking.{IsReplaceable}
+use Rattle.copy_tree.specs.Replaceable.{IsReplaceable}
 use Rattle.laws_sessions.proofs.Untouched.{IsBare, bare_free}
 
 -- a file stands at the source, and at the target nothing, or no folder

@@ -21,7 +21,8 @@ use Rattle.move_job.specs.Movings as movings
 use Rattle.emptied_job.specs.Removals as removals
 use Rattle.mode_job.specs.Settings as settings
 use Rattle.copy_move.specs.Jobs.{WorkTells}
-use Rattle.copy_move.specs.Settling.{LiesApart, NoneOwed, WorkLeaves, changed_folder, is_own, with_change}
+use Rattle.copy_move.specs.Settling.{NoneOwed, WorkLeaves, changed_folder, is_own, with_change}
+use Rattle.copy_move.specs.MountNumbers.{LiesApart}
 use Rattle.job_reports.specs.declared.report.Did.{Did}
 use Rattle.job_reports.specs.declared.report.Did.TheVariants.{Began, Chunk, Placed, Removed, Made, Set, Kept, Skipped, Cleaned, Barrier, Asked, Merges, Moved, Troubled, Ended}
 use Rattle.job_unsynced.specs.Folders.{is_one_of, joined_folders}
@@ -32,7 +33,8 @@ use Rattle.tree_trait.specs.Answers.{mount_number}
 use Rattle.tree_trait.specs.Refusals.{mount_of, refusal_of}
 use Rattle.tree_trait.proofs.Visible.{same_path-self}
 use Rattle.laws_sessions.specs.Doubt.{is_pending, name_waits, node_waits}
-use Rattle.laws_sessions.specs.Owed.{IsApart, IsOwed, OwedLaw, StepLaw, waits_in}
+use Rattle.laws_sessions.specs.Owed.{IsOwed, OwedLaw, StepLaw, waits_in}
+use Rattle.laws_sessions.specs.ApartFolders.{IsApart}
 use Rattle.laws_sessions.specs.Traces.{IsTraced, Stand}
 use Rattle.session_entries.specs.Named.{named_parts}
 use Rattle.session_entries.specs.declared.history.Entry.{Entry}

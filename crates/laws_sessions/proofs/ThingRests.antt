@@ -19,7 +19,8 @@ use Rattle.move_job.specs.Movings.{Moving}
 use Rattle.emptied_job.specs.Removals.{Removing}
 use Rattle.copy_move.specs.declared.work.Work.TheVariants.{Delete, Move, RemoveEmptied}
 use Rattle.delete_job.specs.Deletions.{Deleting}
-use Rattle.copy_move.specs.Settling.{LiesOff, NoneOwed}
+use Rattle.copy_move.specs.Settling.{NoneOwed}
+use Rattle.copy_move.specs.MountNumbers.{LiesOff}
 use Rattle.laws_sessions.specs.Doubt.{is_pending, name_waits, node_waits, way_waits}
 use Rattle.laws_sessions.proofs.AtRest.{RestsBelow}
 use Rattle.laws_sessions.proofs.JobKnows.{HasName, NoneOver, none_joint, none_unlisted, none_waits, over_it, way_sure}

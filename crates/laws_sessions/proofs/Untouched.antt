@@ -16,7 +16,8 @@ use Rattle.tree_trait.proofs.Finding.{find-once}
 use Rattle.laws_crash.specs.Guarded.{Marks}
 use Rattle.job_reports.proofs.PermittedCalls.{stat_missing}
 use Rattle.copy_move.specs.declared.work.Work.{Work}
-use Rattle.copy_move.specs.Settling.{LiesApart, LiesOff, NoneOwed, changed_folder, left_folder}
+use Rattle.copy_move.specs.Settling.{NoneOwed, changed_folder, left_folder}
+use Rattle.copy_move.specs.MountNumbers.{LiesApart, LiesOff}
 use Rattle.laws_sessions.specs.Doubt.{is_pending, name_waits, way_waits}
 use Rattle.laws_sessions.proofs.Knowing.{IsKept, IsKnown, HistoryFacts}
 use Rattle.laws_sessions.proofs.Restless.{IsUnjoined, is_restless, joint_restless}

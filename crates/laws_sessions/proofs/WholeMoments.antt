@@ -18,7 +18,8 @@ use Rattle.session_entries.specs.Entries.{IsMoment, is_closed}
 use Rattle.session_entries.specs.Named.{named_parts}
 use Rattle.laws_sessions.specs.Replayed.{log_prefix, replayed_tree}
 use Rattle.laws_sessions.specs.Traces.{EventLeads, Follows, IsTraced, JobSteps, Stand, before_others, if_closed, with_job}
-use Rattle.laws_sessions.specs.Whole.{IsStillSince, IsWholeAt, WholeLaw, begins_in}
+use Rattle.laws_sessions.specs.Whole.{IsStillSince, IsWholeAt, begins_in}
+use Rattle.laws_sessions.specs.WholeLaw.{WholeLaw}
 use Rattle.laws_sessions.proofs.Going.{only_job}
 use Rattle.laws_sessions.proofs.Histories.{IsReached, enters, traced_reached}
 use Rattle.laws_sessions.proofs.Moments.{log_of, prefix_cut, prefix_is, traced_count}

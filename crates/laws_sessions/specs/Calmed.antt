@@ -2,9 +2,8 @@
 -- words of the history alone. Histories stand newest first here.
 use Rattle.std.specs.Prelude.{◌≡◌, ◌⊎◌, ℕ, Bool, true, false, ◌||◌, List, ◌∷◌, Some}
 use Rattle.mc_text.specs.Routes.{Route, same_path}
-use Rattle.tree_trait.specs.Shape.{IsTree}
-use Rattle.tree_trait.specs.Change.{CallLog, current}
-use Rattle.tree_trait.specs.CrashImages.{Among, all_settled}
+use Rattle.tree_trait.specs.Change.{CallLog}
+use Rattle.tree_trait.specs.CrashImages.{Among}
 use Rattle.job_reports.specs.declared.report.Did.{Did}
 use Rattle.job_reports.specs.declared.report.Did.TheVariants.{Moved}
 use Rattle.job_reports.specs.Paths.{folder_of}
@@ -13,11 +12,10 @@ use Rattle.session_entries.specs.declared.history.Entry.{Entry}
 use Rattle.job_reports.specs.Jobs.{ItemOfJob, folder_changed}
 use Rattle.laws_sessions.specs.Doubt.{name_waits, node_waits}
 use Rattle.session_entries.specs.LiveJobs.{live_jobs, live_item}
-use Rattle.laws_sessions.specs.Owed.{IsApart}
+use Rattle.laws_sessions.specs.ApartFolders.{IsApart}
 use Rattle.session_entries.specs.Named.{begins_change, has_changed, named_parts, names}
 use Rattle.laws_sessions.specs.Replayed.{log_prefix}
 use Rattle.session_entries.specs.Entries.{IsMoment, calls_in}
-use Rattle.laws_sessions.specs.Traces.{IsTraced, Stand}
 
 -- This entry, after the older ones, is the report of the first change of a job that
 -- changes names in this folder.
@@ -58,8 +56,3 @@ pub record CalmsOthers (opening now : CallLog) (newest : List Entry) : Type 0 wh
       → (changes_thing begun.did path ≡ true) ⊎ (Among (named_parts (e ∷ older)) path
       ⊎ ((node_waits (log_prefix opening (calls_in older) now) path ≡ true)
       × IsApart (log_prefix opening (calls_in older) now) folder path))
-
-abbrev pub CalmLaw : Type 0
-CalmLaw = (opening now : CallLog) (newest : List Entry) (stand : Stand)
-    → IsTree (current opening) → all_settled opening.changes ≡ true → IsTraced opening newest stand now
-    → CalmsOthers opening now newest

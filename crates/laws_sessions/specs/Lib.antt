@@ -1,9 +1,14 @@
 pub mod Calmed
+pub mod CalmedLaw
 pub mod Doubt
 pub mod Owed
+pub mod ApartFolders
 pub mod Replayed
 pub mod Safe
+pub mod SafeLaw
 pub mod Staying
+pub mod StayingLaw
 pub mod Traces
 pub mod ToldJob
 pub mod Whole
+pub mod WholeLaw

@@ -2,11 +2,8 @@
 -- nothing waits on that mount.
 use Rattle.std.specs.Prelude.{◌≡◌, ◌⊎◌, ℕ, Bool, true, false, ◌||◌, List, [], ◌∷◌, Option, Some}
 use Rattle.mc_text.specs.Routes.{Route, same_path}
-use Rattle.tree_trait.specs.declared.calls.TreeError.TheVariants.{Missing}
-use Rattle.tree_trait.specs.Calls.{Stat}
 use Rattle.tree_trait.specs.Change.{CallLog, current}
 use Rattle.tree_trait.specs.CrashImages.{Among, all_settled}
-use Rattle.tree_trait.specs.Refusals.{refusal_of}
 use Rattle.tree_trait.specs.Shape.{IsTree}
 use Rattle.job_reports.specs.declared.report.Did.{Did}
 use Rattle.job_reports.specs.declared.report.Did.TheVariants.{Ended}
@@ -18,11 +15,12 @@ use Rattle.copy_move.specs.declared.run.Course.TheVariants.{GoesOn}
 use Rattle.copy_move.specs.declared.work.Work.{Work}
 use Rattle.copy_move.specs.declared.work.Work.TheVariants.{Move, SetMode}
 use Rattle.copy_move.specs.Jobs.{Running, is_fresh}
-use Rattle.copy_move.specs.Settling.{IsMountOf, changed_folder, is_own}
+use Rattle.copy_move.specs.Settling.{changed_folder, is_own}
 use Rattle.copy_move.specs.JobStepReports.{RunStep, step_made}
 use Rattle.laws_sessions.specs.Traces.{IsUnclaimed, IsTraced, Stand, StepLeads, WorkLeads, unless_ended}
 use Rattle.laws_sessions.specs.Doubt.{IsJoined, IsMountInDoubt, is_unsettled}
 use Rattle.laws_sessions.specs.Doubt.{name_waits, node_waits, way_waits}
+use Rattle.laws_sessions.specs.ApartFolders.{IsApart}
 
 -- this folder is dirty, or one is for which and this one a renaming waits
 abbrev pub IsOwed : List Route → CallLog → Route → Type 0
@@ -39,12 +37,6 @@ pub record OwedLaw : Type 0 where
   pub modes : (opening now : CallLog) (newest : List Entry) (stand : Stand) (path : Route)
       → IsTree (current opening) → all_settled opening.changes ≡ true → IsTraced opening newest stand now
       → (Among (named_parts newest) path → ⊥) → node_waits now path ≡ true → Among stand.dirty path
-
--- a folder lies on another mount than this one, or it was removed
-abbrev pub IsApart : CallLog → Route → Route → Type 0
-IsApart log folder other =
-    (refusal_of (current log) (Stat other) ≡ Some Missing)
-    ⊎ ((number : ℕ) × IsMountOf (current log) folder number × (IsMountOf (current log) other number → ⊥))
 
 -- a folder in which a change of a job waits from its first on: one of its own, but of a move only
 -- the two that hold its names

@@ -4,9 +4,8 @@ use Rattle.std.specs.Prelude.{◌≡◌, ◌⊎◌, ℕ, ◌+◌, Bool, true, fa
 use Rattle.tree_trait.specs.declared.file_system.FileSystem.{FileSystem}
 use Rattle.mc_text.specs.Routes.{Route}
 use Rattle.tree_trait.specs.FileSystem.{View, value_at}
-use Rattle.tree_trait.specs.Shape.{IsTree}
-use Rattle.tree_trait.specs.Change.{CallLog, current}
-use Rattle.tree_trait.specs.CrashImages.{Among, all_settled, IsCrashImage}
+use Rattle.tree_trait.specs.Change.{CallLog}
+use Rattle.tree_trait.specs.CrashImages.{Among, IsCrashImage}
 use Rattle.job_reports.specs.declared.job.Pair.{Pair}
 use Rattle.job_reports.specs.declared.report.Did.TheVariants.{Moved}
 use Rattle.session_entries.specs.declared.history.Event.{Event}
@@ -17,7 +16,6 @@ use Rattle.session_entries.specs.declared.history.Entry.{Entry}
 use Rattle.session_entries.specs.Entries.{IsMoment}
 use Rattle.session_entries.specs.Named.{begins_change, named_parts}
 use Rattle.laws_sessions.specs.Replayed.{replayed_tree}
-use Rattle.laws_sessions.specs.Traces.{IsTraced, Stand}
 
 -- the event tells that a change of the tree is begun: a part or a folder is made, a thing is removed or
 -- moved, or a mode is given
@@ -60,8 +58,3 @@ LeavesWhole opening now newest =
     → e.what ≡ Step id (Moved pair) → IsMoment newest standing coming calls → IsStillSince (e ∷ older) coming
     → IsCrashImage now (length opening.changes + calls) image
     → IsWholeAt image pair (named_parts older) (replayed_tree opening now older)
-
-abbrev pub WholeLaw : Type 0
-WholeLaw = (opening now : CallLog) (newest : List Entry) (stand : Stand)
-    → IsTree (current opening) → all_settled opening.changes ≡ true → IsTraced opening newest stand now
-    → LeavesWhole opening now newest

@@ -2,11 +2,11 @@
 //! functions do nothing: their contracts are laws of the definitions in `specs/`.
 #![tactic(auto)]
 
-ghost use Rattle.laws_sessions.specs.Calmed.{CalmLaw};
+ghost use Rattle.laws_sessions.specs.CalmedLaw.{CalmLaw};
 ghost use Rattle.laws_sessions.specs.Owed.{FinishedLaw, FirstChangeLaw, OwedLaw, StepLaw};
-ghost use Rattle.laws_sessions.specs.Safe.{ReplayLaw, SessionLaw};
-ghost use Rattle.laws_sessions.specs.Staying.{DoneLaw, FinishedStaysLaw, StaysLaw};
-ghost use Rattle.laws_sessions.specs.Whole.{WholeLaw};
+ghost use Rattle.laws_sessions.specs.SafeLaw.{ReplayLaw, SessionLaw};
+ghost use Rattle.laws_sessions.specs.StayingLaw.{DoneLaw, FinishedStaysLaw, StaysLaw};
+ghost use Rattle.laws_sessions.specs.WholeLaw.{WholeLaw};
 
 /// At each moment of a session, inside a call too, each path holds after a crash what the history
 /// says, or what it held before its last change, as long as that isn't on the disk; parts may be

@@ -32,12 +32,14 @@ use Rattle.copy_move.proofs.StillTelling.{StillTells, step_tells}
 use Rattle.copy_move.proofs.Telling.{answered_told, began_told, closed_told, fresh_told, step_told, sync_told}
 use Rattle.laws_sessions.proofs.Owing.{step_law}
 use Rattle.laws_sessions.proofs.Reports.{with_one}
-use Rattle.session_entries.specs.Sources.{IsInTurn, are_workable, later as rest_of, left_by, sources_of}
+use Rattle.session_entries.specs.Sources.{are_workable, sources_of}
+use Rattle.session_entries.specs.SourcesLeft.{IsInTurn, later as rest_of, left_by}
 use Rattle.ui_job_boxes.specs.LiveJobs.{takes_answer}
 use Rattle.mc_ui.specs.Screens.{Begins, Answers, Ends, LookLeads, Screen}
 use Rattle.ui_plans.specs.Refused.{has_fault}
 use Rattle.session_log.specs.Told.{news_left, waits_told}
-use Rattle.mc_desk.specs.Tallies.{Tally, faults_in, can_step, end_unseen_event, next_id}
+use Rattle.mc_desk.specs.Tallies.{Tally, can_step, end_unseen_event, next_id}
+use Rattle.mc_desk.specs.KeysAndFaults.{faults_in}
 use Rattle.mc_desk.specs.Desks.{Seen, noted_screen, stand_of, stand_with, with_end}
 use Rattle.mc_desk.specs.LiveRows.{row_of, rows_told}
 use Rattle.mc_desk.specs.Granting.{KeyWorks}

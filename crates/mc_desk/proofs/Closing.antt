@@ -13,7 +13,8 @@ use Rattle.session_log.specs.Logs.{Logged, plain_entry}
 use Rattle.mc_desk.specs.Outputs.{Output}
 use Rattle.mc_desk.specs.Shown.{PutsNothing}
 use Rattle.mc_desk.specs.Standings.{awaited_look, closed_standing}
-use Rattle.mc_desk.specs.Tallies.{Tally, faults_in}
+use Rattle.mc_desk.specs.Tallies.{Tally}
+use Rattle.mc_desk.specs.KeysAndFaults.{faults_in}
 use Rattle.mc_desk.specs.Desks.{IsDesk, seen_of}
 use Rattle.mc_desk.proofs.Adding.{entry}
 use Rattle.mc_desk.proofs.Whole.{desk_closed, desk_lost}

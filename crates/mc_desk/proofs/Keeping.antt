@@ -10,7 +10,7 @@ use Rattle.session_entries.specs.declared.history.Event.TheVariants.{Key, Look, 
 use Rattle.copy_move.specs.Jobs.{Running}
 use Rattle.copy_move.specs.Told.{told_job, if_closed}
 use Rattle.session_entries.specs.Entries.{closes, is_closed, calls_in}
-use Rattle.session_entries.specs.Sources.{AreInTurn, IsInTurn, left_after, sources_left}
+use Rattle.session_entries.specs.SourcesLeft.{AreInTurn, IsInTurn, left_after, sources_left}
 use Rattle.laws_sessions.specs.Traces.{IsTraced, IsTracedTo, at_rest}
 use Rattle.laws_sessions.specs.Traces as traces
 use Rattle.laws_sessions.proofs.Moments.{traced_count}
@@ -20,14 +20,16 @@ use Rattle.mc_desk.specs.declared.starts.StartMode.{StartMode}
 use Rattle.mc_desk.specs.declared.starts.StartMode.TheVariants.{Panels, View}
 use Rattle.session_log.specs.Logs.{Logged}
 use Rattle.session_log.specs.Told.{news_left}
-use Rattle.mc_desk.specs.Tallies.{Tally, tally, after_entry, most_calls, faults_in, next_id}
+use Rattle.mc_desk.specs.Tallies.{Tally, tally, after_entry, most_calls, next_id}
+use Rattle.mc_desk.specs.KeysAndFaults.{faults_in}
 use Rattle.mc_desk.specs.LiveRows.{rows_told}
 use Rattle.mc_desk.specs.Sessions.{Before, IsOpeningIn, IsSession, SessionState, Traces, BeginsIn, EventLeads, HasCauses, IsTimely, Counts}
-use Rattle.mc_desk.specs.Starts.{IsOpened}
+use Rattle.mc_desk.specs.StartedDesks.{IsOpened}
 use Rattle.mc_desk.specs.declared.standing.Standing.{Standing}
 use Rattle.mc_desk.specs.Outputs.{FitsScreen, Output}
 use Rattle.mc_desk.specs.Searches.{EventSeeks}
-use Rattle.mc_desk.specs.Shown.{EventDraws, HasPutNothing, Put, frame_due, none_before}
+use Rattle.mc_desk.specs.Shown.{EventDraws, frame_due, none_before}
+use Rattle.mc_desk.specs.DeskDevices.{HasPutNothing, Put}
 use Rattle.mc_desk.specs.Standings.{fresh_standing}
 use Rattle.mc_desk.specs.Desks.{Seen, IsWritten, IsDesk, noted_screen, seen_of, stand_of, stand_with, state_of}
 

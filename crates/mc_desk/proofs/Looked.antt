@@ -25,7 +25,8 @@ use Rattle.mc_desk.specs.Shown.{frame_at, frame_due, rows_then}
 use Rattle.screen_draw.specs.Drawings.{Display}
 use Rattle.mc_ui.specs.Frames.{frame_of}
 use Rattle.mc_desk.specs.Standings.{after_look, awaited_look, tally_of}
-use Rattle.mc_desk.specs.Tallies.{Tally, can_step, faults_in, next_id}
+use Rattle.mc_desk.specs.Tallies.{Tally, can_step, next_id}
+use Rattle.mc_desk.specs.KeysAndFaults.{faults_in}
 use Rattle.mc_desk.specs.Desks.{IsDesk, Seen, seen_of, with_end}
 use Rattle.mc_desk.proofs.Adding.{entry}
 use Rattle.mc_desk.proofs.Answering.{steps_told}

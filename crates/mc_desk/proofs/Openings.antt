@@ -32,7 +32,8 @@ use Rattle.mc_desk.specs.Sessions.{OpensPanels, OpensViewer, just_opened}
 use Rattle.mc_desk.specs.declared.starts.StartError.{StartError}
 use Rattle.mc_desk.specs.declared.starts.StartMode.TheVariants.{Panels, View}
 use Rattle.mc_desk.specs.declared.starts.StartPlace.TheVariants as place
-use Rattle.mc_desk.specs.Starts.{CanStart, IsRefusal, IsStartCause, Starts, file_refusal, is_start_fault, path_refusal, place_of, refusal_at_end, start_error, unread_at_end, unread_error, viewed_alone}
+use Rattle.mc_desk.specs.Starts.{CanStart, IsRefusal, IsStartCause, file_refusal, is_start_fault, path_refusal, refusal_at_end, unread_at_end}
+use Rattle.mc_desk.specs.StartedDesks.{Starts, place_of, start_error, unread_error, viewed_alone}
 
 -- panels that were just opened make a screen as it opens
 pub opens : (contents : Option CallLog) (left right : Route) (home : Option Route) (lines columns : ℕ) (pair : PairState) (now : ℕ) (screen : Screen) → pair ≡ just_opened pair → screen ≡ opened_screen pair home lines columns now

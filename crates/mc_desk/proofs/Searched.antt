@@ -17,7 +17,8 @@ use Rattle.screen_draw.specs.Drawings.{Display}
 use Rattle.mc_ui.specs.Frames.{frame_of}
 use Rattle.mc_desk.specs.Searches.{HasSought}
 use Rattle.mc_desk.specs.Standings.{awaited_look}
-use Rattle.mc_desk.specs.Tallies.{faults_in, next_id}
+use Rattle.mc_desk.specs.Tallies.{next_id}
+use Rattle.mc_desk.specs.KeysAndFaults.{faults_in}
 use Rattle.mc_desk.specs.Desks.{IsDesk, Seen, seen_of, seeks, with_end}
 use Rattle.mc_desk.proofs.Adding.{entry}
 use Rattle.mc_desk.proofs.Looked.{frame_is_due}

@@ -10,7 +10,8 @@ use Rattle.session_entries.specs.declared.history.Event.TheVariants.{Key, Look, 
 use Rattle.session_entries.specs.declared.history.Entry.{Entry}
 use Rattle.mc_desk.specs.declared.starts.Start.{Start}
 use Rattle.mc_desk.specs.Sessions.{IsSession, SessionState}
-use Rattle.mc_desk.specs.Shown.{DrawsFrame, EventDraws, Put, ShowsOverAny, none_before}
+use Rattle.mc_desk.specs.Shown.{DrawsFrame, EventDraws, ShowsOverAny, none_before}
+use Rattle.mc_desk.specs.DeskDevices.{Put}
 use Rattle.mc_desk.specs.ShownEntries.{CameTo, CutsEntry, ShowsEach, ShowsEntry, draws}
 
 take_all : (xs : List ℕ) → take (length xs) xs ≡ xs

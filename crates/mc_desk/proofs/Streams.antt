@@ -9,8 +9,9 @@ use Rattle.key_screen.specs.DecodedKeys.{Decoded, decoded_keys}
 use Rattle.session_entries.specs.declared.history.Entry.{Entry}
 use Rattle.mc_desk.specs.declared.replies.DeskReply.{DeskReply}
 use Rattle.mc_desk.specs.declared.replies.DeskError.{DeskError}
-use Rattle.mc_desk.specs.Tallies.{keys_in}
-use Rattle.mc_desk.specs.Desks.{Seen, HasTaken, LacksSecond, Reads, TookOf, IsFed, IsNext, KeepsKeys, Joins, Stays, Cuts, TakesByte, is_over}
+use Rattle.mc_desk.specs.KeysAndFaults.{keys_in}
+use Rattle.mc_desk.specs.Desks.{Seen, HasTaken, TookOf, IsFed, IsNext, KeepsKeys, Joins, Stays, Cuts, TakesByte, is_over}
+use Rattle.mc_desk.specs.KeysTaken.{LacksSecond, Reads}
 
 abbrev decoded : List Key → List ℕ → Decoded
 decoded keys rest = record { keys = keys; rest = rest }

@@ -6,7 +6,7 @@ use Rattle.key_screen.specs.DecodedKeys.{Decoded, decoded_keys, followed_by, lis
 use Rattle.key_screen.proofs.CutLemmas.{decoded_keys-append}
 use Rattle.mc_desk.specs.declared.replies.DeskReply.{DeskReply}
 use Rattle.mc_desk.specs.declared.replies.DeskError.{DeskError}
-use Rattle.mc_desk.specs.Tallies.{keys_in}
+use Rattle.mc_desk.specs.KeysAndFaults.{keys_in}
 use Rattle.mc_desk.specs.Desks.{Seen, HasTaken, Joins, TakesByte}
 
 decoded : List Key → List ℕ → Decoded

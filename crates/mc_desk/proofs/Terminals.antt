@@ -9,7 +9,8 @@ use Rattle.key_screen.specs.Grids.{CellGrid}
 use Rattle.screen_draw.specs.Drawings.{Display, HasDrawn, HasSizeOf, IsDrawing, Shows}
 use Rattle.tree_trait.specs.declared.devices.SinkError.TheVariants.{Fault}
 use Rattle.mc_desk.specs.Outputs.{Blames, CountsAll, IsTerminal, Output, ShowsFrame, output_of}
-use Rattle.mc_desk.specs.Shown.{CutsFrame, DrawsBehind, DrawsFrame, HasGiven, Put, PutsFrame, ShowsOverAny, put_since}
+use Rattle.mc_desk.specs.Shown.{CutsFrame, DrawsBehind, DrawsFrame, PutsFrame, ShowsOverAny}
+use Rattle.mc_desk.specs.DeskDevices.{HasGiven, Put, put_since}
 
 same_some : (a b : List ℕ) (o : Option (List ℕ)) → o ≡ Some a → o ≡ Some b → a ≡ b
 same_some a b o left right = let both : Some a ≡ Some b = sym left ∙ right in cc

@@ -9,7 +9,7 @@ use Rattle.job_reports.specs.declared.report.Did.TheVariants.{Ended}
 use Rattle.job_reports.specs.declared.report.Ending.TheVariants.{Finished, NoMemory}
 use Rattle.job_reports.specs.Jobs.{is_workable}
 use Rattle.session_entries.specs.declared.history.Event.TheVariants.{Next, Step}
-use Rattle.session_entries.specs.Sources.{later as rest_of}
+use Rattle.session_entries.specs.SourcesLeft.{later as rest_of}
 use Rattle.copy_move.specs.declared.run.Course.TheVariants.{Ends, GoesOn}
 use Rattle.copy_move.specs.Jobs.{Running, part_of, waits_on}
 use Rattle.copy_move.specs.JobStepReports.{OwnStep, RunStep, SyncsOwed, step_made}
@@ -22,7 +22,8 @@ use Rattle.mc_ui.specs.Screens.{Screen}
 use Rattle.mc_desk.specs.declared.starts.Start.{Start}
 use Rattle.mc_desk.specs.Desks.{IsDesk, Seen, kept_room}
 use Rattle.mc_desk.specs.Outputs.{Output}
-use Rattle.mc_desk.specs.Tallies.{Tally, faults_in}
+use Rattle.mc_desk.specs.Tallies.{Tally}
+use Rattle.mc_desk.specs.KeysAndFaults.{faults_in}
 use Rattle.mc_desk.proofs.Adding.{entry, may_end, same_noted}
 use Rattle.mc_desk.proofs.Keeping.{Adds, written_more}
 use Rattle.mc_desk.proofs.Ordered.{Never, live_never}

@@ -19,7 +19,8 @@ use Rattle.laws_sessions.specs.Traces.{IsUnclaimed}
 use Rattle.mc_desk.specs.declared.starts.Start.{Start}
 use Rattle.job_sources.specs.declared.turning.Stepped.{Stepped}
 use Rattle.mc_desk.specs.Desks.{IsDesk, MovesDirty, Seen, rank_of}
-use Rattle.mc_desk.specs.Tallies.{Tally, faults_in, keys_of}
+use Rattle.mc_desk.specs.Tallies.{Tally}
+use Rattle.mc_desk.specs.KeysAndFaults.{faults_in, keys_of}
 use Rattle.job_sources.specs.Turning.{GoesOn, finishes, merges, rank_left}
 use Rattle.mc_desk.proofs.Adding.{entry}
 use Rattle.mc_desk.proofs.Moving.{run_moves}

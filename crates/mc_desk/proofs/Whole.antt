@@ -11,7 +11,8 @@ use Rattle.job_reports.specs.declared.report.Did.TheVariants.{Ended}
 use Rattle.job_reports.specs.declared.report.Ending.TheVariants.{NoMemory}
 use Rattle.job_reports.specs.declared.job.Job.{Job}
 use Rattle.job_reports.specs.declared.row.JobRow.{JobRow}
-use Rattle.session_entries.specs.Sources.{are_workable, later as rest_of, left_by, sources_of}
+use Rattle.session_entries.specs.Sources.{are_workable, sources_of}
+use Rattle.session_entries.specs.SourcesLeft.{later as rest_of, left_by}
 use Rattle.session_entries.specs.declared.history.Entry.{Entry}
 use Rattle.session_entries.specs.declared.history.Event.TheVariants.{Key, Look, Sought, Began, Order, Step, Closed}
 use Rattle.session_entries.specs.declared.history.JobOrder.TheVariants.{Answered}
@@ -32,7 +33,8 @@ use Rattle.mc_ui.specs.Screens.{Screen, Begins, Answers, LookLeads}
 use Rattle.ui_words.specs.declared.message.Message.{Message}
 use Rattle.ui_plans.specs.Refused.{has_fault}
 use Rattle.session_log.specs.Told.{news_left, waits_told}
-use Rattle.mc_desk.specs.Tallies.{Tally, faults_in, can_step, next_id}
+use Rattle.mc_desk.specs.Tallies.{Tally, can_step, next_id}
+use Rattle.mc_desk.specs.KeysAndFaults.{faults_in}
 use Rattle.mc_desk.specs.declared.starts.Start.{Start}
 use Rattle.mc_desk.specs.LiveRows.{row_of, rows_of, rows_told}
 use Rattle.mc_desk.specs.Granting.{KeyWorks}

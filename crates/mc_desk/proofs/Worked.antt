@@ -40,11 +40,13 @@ use Rattle.session_log.specs.Told.{waits_told}
 use Rattle.mc_desk.specs.LiveRows.{question_in, row_of, rows_of, rows_told, state_with, trouble_in}
 use Rattle.session_log.specs.Logs.{Logged, entries_with_event}
 use Rattle.mc_desk.specs.Outputs.{FitsScreen, Output, ShowsFrame}
-use Rattle.mc_desk.specs.Shown.{DrawsBehind, DrawsFrame, Put, begun_rows, frame_at, frame_due, ready_row, rows_then, none_before}
+use Rattle.mc_desk.specs.Shown.{DrawsBehind, DrawsFrame, begun_rows, frame_at, frame_due, ready_row, rows_then, none_before}
+use Rattle.mc_desk.specs.DeskDevices.{Put}
 use Rattle.screen_draw.specs.Drawings.{Display}
 use Rattle.mc_ui.specs.Frames.{frame_of}
 use Rattle.mc_desk.specs.Standings.{MayCarryOut, after_answer, after_deed, awaited_look, event_of, order_of}
-use Rattle.mc_desk.specs.Tallies.{can_step, faults_in, next_id}
+use Rattle.mc_desk.specs.Tallies.{can_step, next_id}
+use Rattle.mc_desk.specs.KeysAndFaults.{faults_in}
 use Rattle.mc_desk.specs.Desks.{IsDesk, IsShown, Seen, seen_of, with_end}
 use Rattle.mc_desk.proofs.Adding.{entry, unasked_screen}
 use Rattle.mc_desk.proofs.Answering.{none_of}

@@ -7,13 +7,12 @@ use Rattle.mc_text.specs.Routes.{Route}
 use Rattle.tree_trait.specs.Change.{CallLog}
 use Rattle.tree_trait.specs.Answers.{IfKnown}
 use Rattle.tree_trait.specs.declared.devices.Command.{Command}
-use Rattle.key_screen.specs.declared.keys.Key.{Key as KeyType}
 use Rattle.key_screen.specs.DecodedKeys.{decoded_keys}
 use Rattle.job_reports.specs.declared.job.Job.{Job}
 use Rattle.job_reports.specs.declared.report.Did.TheVariants.{Barrier, Moved, Removed}
 use Rattle.session_entries.specs.declared.history.Event.TheVariants.{Step}
 use Rattle.session_entries.specs.declared.history.Entry.{Entry}
-use Rattle.session_entries.specs.Sources.{sources_left}
+use Rattle.session_entries.specs.SourcesLeft.{sources_left}
 use Rattle.copy_move.specs.Jobs.{Running}
 use Rattle.copy_move.specs.Told.{told_job}
 use Rattle.copy_move.specs.Settling.{is_own}
@@ -30,7 +29,8 @@ use Rattle.mc_desk.specs.declared.replies.DeskError.{DeskError}
 use Rattle.mc_desk.specs.declared.replies.DeskError.TheVariants as error
 use Rattle.mc_desk.specs.declared.replies.StepReply.{StepReply}
 use Rattle.mc_desk.specs.declared.replies.StepReply.TheVariants.{Ended, Idle}
-use Rattle.mc_desk.specs.Tallies.{Tally, can_step, tally, faults_in, keys_in}
+use Rattle.mc_desk.specs.Tallies.{Tally, can_step, tally}
+use Rattle.mc_desk.specs.KeysAndFaults.{faults_in, keys_in}
 use Rattle.mc_desk.specs.Sessions.{IsSession, SessionState}
 use Rattle.session_log.specs.Logs.{Logged}
 use Rattle.mc_desk.specs.Outputs.{FitsScreen, Output}
@@ -41,6 +41,8 @@ use Rattle.key_screen.specs.Grids.{CellGrid}
 use Rattle.mc_desk.specs.Standings.{tally_of}
 use Rattle.job_sources.specs.Turning.{rank_left}
 use Rattle.mc_desk.specs.declared.standing.Standing.{Standing}
+use Rattle.mc_desk.specs.DeskDevices.{RanNothing}
+use Rattle.mc_desk.specs.KeysTaken.{LacksSecond}
 
 -- what can be seen of a desk: its entries, the newest first, and how many more find room; the screen;
 -- the live job, and the sources that it is yet to take up; the dirty folders; what the history came
@@ -154,11 +156,6 @@ IsUncut desk = desk.tally.closed ≡ false → desk.out.put.is_cut ≡ false
 abbrev pub BlamesScreen : {A : Type 0} → Result A DeskError → Bool → Type 0
 BlamesScreen result failed = result ≡ Err error.Screen → failed ≡ true
 
--- no command ran, and none failed
-pub record RanNothing (runs runs_now : Option (List Command)) (faults faults_now : ℕ) : Type 0 where
-  pub ran : runs_now ≡ runs
-  pub failed : faults_now ≡ faults
-
 -- what a session keeps of its tree and its spawner
 pub record KeepsDesk (start : Option Start) (opening contents : Option CallLog) (seen : Seen)
     (faults faults_now : ℕ)
@@ -170,23 +167,6 @@ pub record KeepsDesk (start : Option Start) (opening contents : Option CallLog) 
 -- the bytes that the keyboard gave are the keys of the history and those since the last key
 abbrev pub HasTaken : List ℕ → Seen → Type 0
 HasTaken bytes desk = decoded_keys bytes ≡ record { keys = keys_in desk.newest; rest = desk.pending }
-
--- the last of these bytes completed two keys, of which the history lacks the second
-pub record LacksSecond (bytes : List ℕ) (newest : List Entry) : Type 0 where
-  pub prefix : List ℕ
-  pub last : ℕ
-  pub first : KeyType
-  pub second : KeyType
-  pub bytes_are : bytes ≡ prefix ++ last ∷ []
-  pub completed : (decoded_keys bytes).keys ≡ (decoded_keys prefix).keys ++ first ∷ second ∷ []
-  pub has : keys_in newest ≡ (decoded_keys prefix).keys ++ first ∷ []
-
--- Of what the keyboard gives so many bytes were taken, a prefix of it, and their keys are those of the
--- history; in a closed session the history may lack the second of two that the last byte completed.
-pub record Reads (bytes : List ℕ) (taken : ℕ) (closed : Bool) (newest : List Entry) : Type 0 where
-  pub some : taken ≤ length bytes
-  pub keys : ((decoded_keys (take taken bytes)).keys ≡ keys_in newest)
-      ⊎ ((closed ≡ true) × LacksSecond (take taken bytes) newest)
 
 -- the same of a desk, with the bytes since the last key
 pub record TookOf (bytes : List ℕ) (desk : Seen) : Type 0 where

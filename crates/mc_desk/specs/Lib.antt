@@ -1,11 +1,15 @@
 pub mod Desks
+pub mod KeysTaken
 pub mod Granting
 pub mod LiveRows
 pub mod Outputs
 pub mod Searches
 pub mod Sessions
 pub mod Shown
+pub mod DeskDevices
 pub mod ShownEntries
 pub mod Standings
 pub mod Starts
+pub mod StartedDesks
 pub mod Tallies
+pub mod KeysAndFaults

@@ -7,7 +7,8 @@ use Rattle.tree_trait.specs.declared.devices.SinkError.TheVariants.{Fault}
 use Rattle.key_screen.specs.Grids.{CellGrid}
 use Rattle.mc_ui.specs.Screens.{Screen}
 use Rattle.screen_draw.specs.Drawings.{Display, HasSizeOf}
-use Rattle.mc_desk.specs.Shown.{DrawsFrame, HasGiven, HasPutNothing, Put, ShowsOverAny, put_since}
+use Rattle.mc_desk.specs.Shown.{DrawsFrame, ShowsOverAny}
+use Rattle.mc_desk.specs.DeskDevices.{HasGiven, HasPutNothing, Put, put_since}
 
 -- what was put, the frame drawn last, how many bytes the drawings that ended have put, and
 -- whether the screen has failed

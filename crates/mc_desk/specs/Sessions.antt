@@ -19,7 +19,8 @@ use Rattle.copy_move.specs.Faults.{MeetsFault}
 use Rattle.copy_move.specs.Told.{IsAllowedStep, MayTurn}
 use Rattle.session_entries.specs.Refusals.{AreRefused}
 use Rattle.session_entries.specs.Entries.{calls_in, last_id}
-use Rattle.session_entries.specs.Sources.{IsInTurn, are_workable, sources_left}
+use Rattle.session_entries.specs.Sources.{are_workable}
+use Rattle.session_entries.specs.SourcesLeft.{IsInTurn, sources_left}
 use Rattle.laws_sessions.specs.Traces.{Follows, Stand, at_rest, nothing_live}
 use Rattle.ui_words.specs.declared.message.Message.{Message}
 use Rattle.ui_plans.specs.Refused.{has_fault}
@@ -38,9 +39,11 @@ use Rattle.mc_desk.specs.declared.starts.StartMode.TheVariants.{Panels, View}
 use Rattle.mc_desk.specs.Granting.{KeyWorks}
 use Rattle.mc_desk.specs.LiveRows.{rows_told}
 use Rattle.mc_desk.specs.Searches.{EventSeeks}
-use Rattle.mc_desk.specs.Shown.{EventDraws, HasPutNothing, Put, frame_due, none_before}
+use Rattle.mc_desk.specs.Shown.{EventDraws, frame_due, none_before}
+use Rattle.mc_desk.specs.DeskDevices.{HasPutNothing, Put}
 use Rattle.session_log.specs.Told.{news_left}
-use Rattle.mc_desk.specs.Tallies.{Tally, tally, most_calls, faults_in, next_id}
+use Rattle.mc_desk.specs.Tallies.{Tally, tally, most_calls, next_id}
+use Rattle.mc_desk.specs.KeysAndFaults.{faults_in}
 
 -- no key is worked in a closed session, where something is to be looked at, while a search goes
 -- on, or after one was lost

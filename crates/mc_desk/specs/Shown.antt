@@ -1,7 +1,7 @@
 -- What a session puts on its terminal: each key that is worked, each look, and the steps of a search draw
 -- the frame of what the screen then shows.
 use Rattle.std.specs.Prelude.{◌≡◌, ◌⊎◌, ℕ, Bool, true, false, List, [], ◌∷◌}
-use Rattle.std.specs.Prelude.{◌++◌, length, map, take, drop, Option, Some, None}
+use Rattle.std.specs.Prelude.{◌++◌, length, map, take, Option, Some, None}
 use Rattle.tree_trait.specs.Answers.{IfKnown}
 use Rattle.key_screen.specs.Grids.{CellGrid}
 use Rattle.std.specs.Option.{option_map}
@@ -20,21 +20,12 @@ use Rattle.mc_ui.specs.Screens.{Screen, Planned, Begins, Answers, Ends}
 use Rattle.screen_draw.specs.Drawings.{HasSizeOf, Shows}
 use Rattle.screen_draw.specs.Sparse.{IsSparse}
 use Rattle.mc_ui.specs.Frames.{frame_of}
-
--- what a session has put since its opening, where the sink tells, and whether its last drawing was cut short
-pub record Put : Type 0 where
-  pub bytes : Option (List ℕ)
-  pub is_cut : Bool
+use Rattle.mc_desk.specs.DeskDevices.{Put}
 
 -- there is no entry yet
 abbrev pub none_before : List Entry → Bool
 none_before [] = true
 none_before (e ∷ older) = false
-
--- nothing was put yet
-pub record HasPutNothing (put : Put) : Type 0 where
-  pub bytes : IfKnown put.bytes (λ bytes. bytes ≡ [])
-  pub uncut : put.is_cut ≡ false
 
 -- After these bytes each terminal of a frame's size shows the frame, whatever it was given and
 -- showed before, as a blank one.
@@ -120,14 +111,3 @@ frame_at screen rows = frame_of (record screen { planned = None }) rows
 -- the frame that an entry draws which leads to this screen
 abbrev pub frame_due : Screen → Option ℕ → List JobRow → CellGrid
 frame_due screen next rows = frame_at screen (rows_then screen.planned next rows)
-
--- what was put behind these bytes
-abbrev pub put_since : Option (List ℕ) → Option (List ℕ) → Option (List ℕ)
-put_since None now = None
-put_since (Some given) None = None
-put_since (Some given) (Some now) = Some (drop (length given) now)
-
--- a sink that was given these bytes before has been given those that were put behind them
-pub record HasGiven (given put now : Option (List ℕ)) : Type 0 where
-  pub told : IfKnown given (λ before. (bytes : List ℕ) × (put ≡ Some bytes) × (now ≡ Some (before ++ bytes)))
-  pub untold : given ≡ None → (put ≡ None) × (now ≡ None)

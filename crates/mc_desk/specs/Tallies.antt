@@ -1,9 +1,8 @@
 -- What a history comes to: the live job, what is due, and what was counted. Histories
 -- stand newest first here.
 use Rattle.std.specs.Prelude.{ℕ, ◌+◌, ◌-◌, ◌^◌, nat_lt, Bool, true, false, ◌||◌}
-use Rattle.std.specs.Prelude.{if◌then◌else◌, List, [], ◌∷◌, ◌++◌, Option, Some, None}
+use Rattle.std.specs.Prelude.{if◌then◌else◌, List, [], ◌∷◌, Option, Some, None}
 use Rattle.std.specs.Option.{option_map}
-use Rattle.key_screen.specs.declared.keys.Key.{Key as KeyType}
 use Rattle.job_reports.specs.declared.report.Did.TheVariants.{Ended}
 use Rattle.session_entries.specs.declared.history.Event.{Event}
 use Rattle.session_entries.specs.declared.history.Event.TheVariants.{Key, Look, Sought, Began}
@@ -13,6 +12,7 @@ use Rattle.copy_move.specs.Jobs.{Running, waits_on}
 use Rattle.laws_sessions.specs.ToldJob.{live_job, after_event}
 use Rattle.session_entries.specs.Entries.{last_id, is_closed, closes, id_after, calls_in}
 use Rattle.copy_move.specs.Told.{if_closed}
+use Rattle.mc_desk.specs.KeysAndFaults.{loses, has_lost}
 
 -- a job has ended, and no look has taken it up
 abbrev pub end_unseen_event : Event → Bool → Bool
@@ -48,26 +48,6 @@ due_after Closed job before = None
 abbrev pub due_in : List Entry → Option ℕ
 due_in [] = Some 0
 due_in (e ∷ older) = due_after e.what (live_job older) (due_in older)
-
--- a key was lost since memory ran out
-abbrev pub loses : Event → Bool
-loses (Key key now refusals lost) = lost
-loses (Look refusals) = false
-loses Sought = false
-loses (Began id plan background) = false
-loses (Order id order) = false
-loses (Step id did) = false
-loses (Next id plan) = false
-loses Closed = false
-
-abbrev pub has_lost : List Entry → Bool
-has_lost [] = false
-has_lost (e ∷ older) = loses e.what || has_lost older
-
--- how often the tree had failed by the end of these entries, counted from so often at the opening
-abbrev pub faults_in : ℕ → List Entry → ℕ
-faults_in opening [] = opening
-faults_in opening (e ∷ older) = e.faults
 
 -- what a history comes to: the live job as it tells it, and the last one's number; whether a job's end
 -- waits for a look, whether the session is closed, what is to be looked at before the next key, and whether
@@ -114,18 +94,3 @@ most_calls (Order id order) = 0
 most_calls (Step id did) = 3
 most_calls (Next id plan) = 0
 most_calls Closed = 0
-
--- the keys of a history, the first one first
-abbrev pub keys_of : Event → List KeyType
-keys_of (Key key now refusals lost) = key ∷ []
-keys_of (Look refusals) = []
-keys_of Sought = []
-keys_of (Began id plan background) = []
-keys_of (Order id order) = []
-keys_of (Step id did) = []
-keys_of (Next id plan) = []
-keys_of Closed = []
-
-abbrev pub keys_in : List Entry → List KeyType
-keys_in [] = []
-keys_in (e ∷ older) = keys_in older ++ keys_of e.what

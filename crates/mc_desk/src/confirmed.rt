@@ -1,6 +1,7 @@
 //! A job that a key confirmed.
 ghost use Rattle.std.specs.Prelude.{◌≡◌, Some, option_map};
-ghost use Rattle.session_entries.specs.Sources.{later as rest_of, sources_of};
+ghost use Rattle.session_entries.specs.Sources.{sources_of};
+ghost use Rattle.session_entries.specs.SourcesLeft.{later as rest_of};
 ghost use Rattle.copy_move.specs.Jobs.{begun_work};
 ghost use Rattle.copy_move.specs.Told.{running};
 

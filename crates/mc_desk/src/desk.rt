@@ -4,20 +4,21 @@ ghost use Rattle.std.specs.Prelude.{◌≡◌, ◌<◌, ◌≤◌, false, true, 
 ghost use Rattle.std.specs.Prelude.{IsSome, IsTrue, OnOk, None, Some, if◌then◌else◌, reverse};
 ghost use Rattle.tree_trait.specs.Change.{current};
 ghost use Rattle.tree_trait.specs.Answers.{IfKnown, HasRisen};
-ghost use Rattle.session_entries.specs.Sources.{AreInTurn};
+ghost use Rattle.session_entries.specs.SourcesLeft.{AreInTurn};
 ghost use Rattle.laws_sessions.specs.ToldJob.{live_job};
 ghost use Rattle.copy_move.specs.Told.{IsReady};
 ghost use Rattle.laws_sessions.specs.Traces.{IsTracedTo};
 ghost use Rattle.session_log.specs.Logs.{jobs_begun};
 ghost use Rattle.mc_desk.specs.Sessions.{BeginsIn, EndsSession};
 ghost use Rattle.mc_desk.specs.Starts.{CanStart, IsStartCause, is_start_fault};
-ghost use Rattle.mc_desk.specs.Tallies.{can_step, faults_in, has_lost};
+ghost use Rattle.mc_desk.specs.Tallies.{can_step};
+ghost use Rattle.mc_desk.specs.KeysAndFaults.{faults_in, has_lost};
 ghost use Rattle.mc_desk.specs.Outputs.{Blames};
-ghost use Rattle.mc_desk.specs.Shown.{HasGiven, put_since};
+ghost use Rattle.mc_desk.specs.DeskDevices.{HasGiven, put_since, RanNothing};
 ghost use Rattle.mc_desk.specs.Standings.{awaited_by, is_quit};
-ghost use Rattle.mc_desk.specs.Desks.{BlamesScreen, CountsByte, FailsClosed, IsFresh};
-ghost use Rattle.mc_desk.specs.Desks.{IsNext, KeepsKeys, MovesDirty, RanNothing, Reads};
-ghost use Rattle.mc_desk.specs.Desks.{ShowsDesk, idle_reply, is_over, rank_of, seeks};
+ghost use Rattle.mc_desk.specs.Desks.{BlamesScreen, CountsByte, FailsClosed, IsFresh, IsNext, KeepsKeys};
+ghost use Rattle.mc_desk.specs.Desks.{MovesDirty, ShowsDesk, idle_reply, is_over, rank_of, seeks};
+ghost use Rattle.mc_desk.specs.KeysTaken.{Reads};
 ghost use Rattle.mc_desk.specs.Searches.{steps_ahead};
 
 use crate::opening::open;

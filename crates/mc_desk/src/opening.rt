@@ -8,8 +8,9 @@ ghost use Rattle.mc_text.specs.Routes.{path_text};
 ghost use Rattle.panel_pair.specs.Pairs.{unread_pair};
 ghost use Rattle.ui_viewer.specs.Openings.{OpensThing, ReadsToOpen};
 ghost use Rattle.mc_desk.specs.Sessions.{IsOpeningIn, OpensPanels, OpensViewer, viewing_alone};
-ghost use Rattle.mc_desk.specs.Starts.{IsOpened, Starts, is_start_fault, place_of as place_on};
-ghost use Rattle.mc_desk.specs.Starts.{start_error, unread_error, viewed_alone};
+ghost use Rattle.mc_desk.specs.Starts.{is_start_fault};
+ghost use Rattle.mc_desk.specs.StartedDesks.{IsOpened, Starts, place_of as place_on};
+ghost use Rattle.mc_desk.specs.StartedDesks.{start_error, unread_error, viewed_alone};
 
 use crate::starts::{Start, StartError, StartMode, StartPlace};
 use mc_text::{NoMemory, Path};

@@ -4,7 +4,7 @@ ghost use Rattle.std.specs.Prelude.{◌≡◌, ◌≤◌, false, []};
 ghost use Rattle.mc_desk.specs.declared.starts.Start.{Start};
 ghost use Rattle.mc_desk.specs.Outputs.{FitsScreen};
 ghost use Rattle.mc_desk.specs.Sessions.{BeginsIn};
-ghost use Rattle.mc_desk.specs.Starts.{IsOpened};
+ghost use Rattle.mc_desk.specs.StartedDesks.{IsOpened};
 
 mod keys;
 mod steps;

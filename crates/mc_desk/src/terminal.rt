@@ -3,7 +3,7 @@ ghost use Rattle.std.specs.Prelude.{◌≡◌, ◌+◌, ◌≤◌, ◌<◌, ◌^
 ghost use Rattle.session_log.specs.Told.{waits_told};
 ghost use Rattle.mc_desk.specs.LiveRows.{rows_of as rows_for};
 ghost use Rattle.mc_desk.specs.Outputs.{Blames, CountsAll, FitsScreen, IsFirstOutput, ShowsFrame, ShowsLast};
-ghost use Rattle.mc_desk.specs.Shown.{HasGiven, put_since};
+ghost use Rattle.mc_desk.specs.DeskDevices.{HasGiven, put_since};
 ghost use Rattle.screen_draw.specs.Drawings.{HasSizeOf};
 ghost use Rattle.mc_ui.specs.Frames.{frame_of};
 

@@ -23,7 +23,8 @@ use Rattle.mc_main.specs.declared.words.Typed.TheVariants as said
 use Rattle.mc_main.specs.declared.words.Beginning.{Beginning}
 use Rattle.mc_main.specs.declared.words.Beginning.TheVariants.{Session, Print}
 use Rattle.mc_main.specs.Beginnings.{AskFor, IsBeginning, asked_in, printed_for, session_start, start_with, start_word, status_with, text_of, word_for}
-use Rattle.mc_main.specs.Headline.{BeginsNone, IsComplete, IsStatusOr, RefusesStart}
+use Rattle.mc_main.specs.Statuses.{BeginsNone, IsStatusOr}
+use Rattle.mc_main.specs.StartRefusals.{IsComplete, RefusesStart}
 use Rattle.mc_main.specs.Printed.{IsCauseIn, MayPut, MayPutCause, PrintsCause, PrintsStart, PutsSome, start_line}
 
 -- what was typed for a path is the word that names it

@@ -18,14 +18,19 @@ use Rattle.laws_outcomes.proofs.Outcome.{outcome_law}
 use Rattle.laws_outcomes.proofs.Together.{all_sources_law}
 use Rattle.mc_desk.specs.declared.starts.Start.{Start}
 use Rattle.mc_desk.specs.Sessions.{EndsSession}
-use Rattle.mc_desk.specs.Shown.{HasGiven, put_since}
-use Rattle.mc_desk.specs.Tallies.{faults_in}
+use Rattle.mc_desk.specs.DeskDevices.{HasGiven, put_since}
+use Rattle.mc_desk.specs.KeysAndFaults.{faults_in}
 use Rattle.mc_desk.proofs.Seeing.{session_shows}
 use Rattle.mc_desk.proofs.Terminals.{since_is}
 use Rattle.mc_main.specs.declared.session.SessionEnd.{SessionEnd}
 use Rattle.mc_main.specs.declared.session.SessionEnd.TheVariants.{Quit, KeysEnded}
 use Rattle.mc_main.proofs.Starting.{can_read}
-use Rattle.mc_main.specs.Headline.{IsAnsweredRun, IsCalmedRun, IsCut, ShowsRun, IsFinishedRun, IsOutcomeRun, IsReplayedRun, IsSafeRun, IsStatusOf, IsStatusOr, MayRefuseStart, IsComplete, IsWholeRun, RanSession, TookAll}
+use Rattle.mc_main.specs.Headline.{IsCalmedRun, IsFinishedRun, IsReplayedRun, IsSafeRun, IsWholeRun}
+use Rattle.mc_main.specs.OutcomeRuns.{IsAnsweredRun, IsOutcomeRun}
+use Rattle.mc_main.specs.KeysRead.{IsCut, TookAll}
+use Rattle.mc_main.specs.SessionRuns.{ShowsRun, RanSession}
+use Rattle.mc_main.specs.Statuses.{IsStatusOf, IsStatusOr}
+use Rattle.mc_main.specs.StartRefusals.{MayRefuseStart, IsComplete}
 
 -- the trace of a tree that tells
 told_trace : (o contents : Option CallLog) (newest : List Entry) (opening now : CallLog) → o ≡ Some opening → contents ≡ Some now → IsTracedTo o contents newest → (dirty : List Route) × IsTraced opening newest (at_rest dirty) now

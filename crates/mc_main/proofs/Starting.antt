@@ -13,7 +13,8 @@ use Rattle.mc_desk.specs.declared.starts.StartMode.TheVariants.{Panels, View}
 use Rattle.mc_desk.specs.declared.starts.StartPlace.{StartPlace}
 use Rattle.mc_desk.specs.declared.starts.StartPlace.TheVariants as place
 use Rattle.mc_desk.specs.Starts.{CanStart, IsRefusal, IsStartCause, file_refusal, is_start_fault, path_refusal}
-use Rattle.mc_main.specs.Headline.{CantRead, IsComplete, IsStatusOr, MayRefuseStart, RefusesStart}
+use Rattle.mc_main.specs.StartRefusals.{CantRead, IsComplete, MayRefuseStart, RefusesStart}
+use Rattle.mc_main.specs.Statuses.{IsStatusOr}
 
 some_of : {A : Type 0} (x : Option A) (a : A) → x ≡ Some a → IsSome x
 some_of x a is = subst (λ (o : Option _). IsSome o) (sym is) refl

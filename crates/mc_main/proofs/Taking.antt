@@ -7,12 +7,14 @@ use Rattle.tree_trait.specs.Devices.{HasTaken as HasGiven}
 use Rattle.session_entries.specs.declared.history.Entry.{Entry}
 use Rattle.mc_desk.specs.declared.replies.DeskReply.{DeskReply}
 use Rattle.mc_desk.specs.declared.replies.DeskReply.TheVariants.{Go, Wait, Quit}
-use Rattle.mc_desk.specs.Tallies.{keys_in}
+use Rattle.mc_desk.specs.KeysAndFaults.{keys_in}
 use Rattle.mc_desk.specs.Standings.{is_quit}
-use Rattle.mc_desk.specs.Desks.{IsNext, Reads}
+use Rattle.mc_desk.specs.Desks.{IsNext}
+use Rattle.mc_desk.specs.KeysTaken.{Reads}
 use Rattle.mc_main.specs.declared.session.SessionEnd.{SessionEnd}
 use Rattle.mc_main.specs.declared.session.SessionEnd.TheVariants.{ScreenFailed, NoMemory}
-use Rattle.mc_main.specs.Headline.{IsCut, IsCutShort, LeavesOthers, ReadsKeys, TookAll, left_of}
+use Rattle.mc_main.specs.KeysRead.{IsCut, LeavesOthers, ReadsKeys, TookAll, left_of}
+use Rattle.mc_main.specs.Statuses.{IsCutShort}
 
 -- a source has left what it didn't give
 pub gives : (left : Option (List ℕ)) (room : List ℕ) (count n : ℕ) (new : Option (List ℕ)) → count ≡ n → IfKnown left (λ b. HasGiven b room (let r : Result ℕ SourceFault = Ok count in r) new)

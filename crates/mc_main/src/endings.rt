@@ -5,10 +5,13 @@ ghost use Rattle.tree_trait.specs.Answers.{IfKnown, HasRisen};
 ghost use Rattle.laws_sessions.specs.ToldJob.{live_job};
 ghost use Rattle.laws_sessions.specs.Traces.{IsTracedTo};
 ghost use Rattle.session_log.specs.Logs.{jobs_begun};
-ghost use Rattle.mc_desk.specs.Tallies.{faults_in, has_lost};
-ghost use Rattle.mc_desk.specs.Desks.{IsFresh, RanNothing};
+ghost use Rattle.mc_desk.specs.KeysAndFaults.{faults_in, has_lost};
+ghost use Rattle.mc_desk.specs.Desks.{IsFresh};
+ghost use Rattle.mc_desk.specs.DeskDevices.{RanNothing};
 ghost use Rattle.mc_main.specs.Printed.{MayPutCause, PrintsCause, PutsSome, start_line as line_for};
-ghost use Rattle.mc_main.specs.Headline.{IsStatusOr, IsStatusOf, RanSession, ReadsKeys, TookAll};
+ghost use Rattle.mc_main.specs.Statuses.{IsStatusOr, IsStatusOf};
+ghost use Rattle.mc_main.specs.SessionRuns.{RanSession};
+ghost use Rattle.mc_main.specs.KeysRead.{ReadsKeys, TookAll};
 
 use crate::outcome::Outcome;
 use crate::session::{SessionEnd, run_session};

@@ -3,7 +3,7 @@
 ghost use Rattle.std.specs.Prelude.{◌≡◌, ◌≤◌, true, false, None, Some, IfOk, IfNone, OnOk, slice_get};
 ghost use Rattle.tree_trait.specs.Answers.{HasRisen, HasCause, IfKnown};
 ghost use Rattle.mc_desk.specs.Desks.{IsFresh, KeepsKeys, is_over, seeks};
-ghost use Rattle.mc_main.specs.Headline.{IsCut, LeavesOthers, TookAll, bytes_given, left_of};
+ghost use Rattle.mc_main.specs.KeysRead.{IsCut, LeavesOthers, TookAll, bytes_given, left_of};
 
 use mc_desk::{Desk, DeskError, DeskReply, Tag};
 use std::alloc::Global;

@@ -23,7 +23,7 @@ use Rattle.ui_words.specs.declared.carry.Carry.{Carry}
 use Rattle.ui_words.specs.declared.carry.Carry.TheVariants as carry
 use Rattle.ui_words.specs.declared.message.Message.{Message}
 use Rattle.ui_words.specs.declared.message.Message.TheVariants.{Refused, PartLeft, OutOfMemory, Help}
-use Rattle.ui_words.specs.Causes.{refusal_words, trouble_words}
+use Rattle.ui_words.specs.RefusalWords.{refusal_words, trouble_words}
 
 -- the path that can't be read, if one is to blame
 abbrev pub resolve_path : ResolveError → Option Route

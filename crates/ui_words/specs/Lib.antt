@@ -1,4 +1,5 @@
 pub mod BoxKeys
 pub mod BoxLines
 pub mod Causes
+pub mod RefusalWords
 pub mod Chosen

@@ -1,7 +1,8 @@
 //! The texts of causes, as they are shown and printed.
 ghost use Rattle.std.specs.Prelude.{◌≡◌, IfOk};
-ghost use Rattle.ui_words.specs.Causes.{begin_words, cause_words, plan_words, refusal_words};
-ghost use Rattle.ui_words.specs.Causes.{resolve_words, trouble_words, typed_words};
+ghost use Rattle.ui_words.specs.Causes.{cause_words, resolve_words};
+ghost use Rattle.ui_words.specs.RefusalWords.{begin_words, plan_words, refusal_words};
+ghost use Rattle.ui_words.specs.RefusalWords.{trouble_words, typed_words};
 
 use job_reports::Cause;
 use mc_text::{NoMemory, Text};

@@ -3,7 +3,8 @@ ghost use Rattle.std.specs.Prelude.{◌≡◌, ◌+◌, ◌≤◌, ◌<◌, ◌�
 ghost use Rattle.std.specs.Prelude.{IsTrue, IfErr, IfOk, IsOk, OnOk, OnErr, Ok, Err, Some, None};
 ghost use Rattle.copy_move.specs.Told.{IsReady};
 ghost use Rattle.mc_desk.specs.Standings.{awaited_by, is_quit};
-ghost use Rattle.mc_desk.specs.Tallies.{can_step, keys_in};
+ghost use Rattle.mc_desk.specs.Tallies.{can_step};
+ghost use Rattle.mc_desk.specs.KeysAndFaults.{keys_in};
 ghost use Rattle.mc_desk.specs.Desks.{BlamesScreen, CountsByte, FailsClosed, IsUncut, ShowsDesk};
 ghost use Rattle.mc_desk.specs.Desks.{is_over, seeks, HasTaken, TakesByte, KeepsKeys};
 ghost use Rattle.mc_ui.specs.Seekings.{is_seeking};

@@ -2,14 +2,15 @@
 ghost use Rattle.std.specs.Prelude.{◌≡◌, ◌<◌, ◌≤◌, true, None, IsSome, ◌||◌, reverse, if◌then◌else◌};
 ghost use Rattle.std.specs.Option.{is_none};
 ghost use Rattle.copy_move.specs.Told.{if_closed, IsReady};
-ghost use Rattle.session_entries.specs.Sources.{AreInTurn};
+ghost use Rattle.session_entries.specs.SourcesLeft.{AreInTurn};
 ghost use Rattle.laws_sessions.specs.ToldJob.{live_job};
 ghost use Rattle.laws_sessions.specs.Traces.{IsTracedTo};
 ghost use Rattle.mc_desk.specs.Sessions.{EndsSession};
-ghost use Rattle.mc_desk.specs.Tallies.{can_step, faults_in, keys_in, has_lost};
+ghost use Rattle.mc_desk.specs.Tallies.{can_step};
+ghost use Rattle.mc_desk.specs.KeysAndFaults.{faults_in, keys_in, has_lost};
 ghost use Rattle.mc_desk.specs.Outputs.{Blames};
-ghost use Rattle.mc_desk.specs.Shown.{HasGiven, put_since};
-ghost use Rattle.mc_desk.specs.Desks.{KeepsKeys, MovesDirty, RanNothing, idle_reply, rank_of};
+ghost use Rattle.mc_desk.specs.DeskDevices.{HasGiven, put_since, RanNothing};
+ghost use Rattle.mc_desk.specs.Desks.{KeepsKeys, MovesDirty, idle_reply, rank_of};
 ghost use Rattle.session_log.specs.Logs.{jobs_begun};
 
 use super::Session;

@@ -4,7 +4,8 @@ use Rattle.mc_text.specs.Routes.{Route}
 use Rattle.tree_trait.specs.Change.{current}
 use Rattle.tree_trait.specs.Answers.{IfKnown}
 use Rattle.tree_trait.specs.CrashImages.{Among}
-use Rattle.copy_move.specs.Settling.{IsElsewhere, IsGoneForFolder, IsMountOf, changed_folder}
+use Rattle.copy_move.specs.Settling.{IsElsewhere, IsGoneForFolder, changed_folder}
+use Rattle.copy_move.specs.MountNumbers.{IsMountOf}
 use Rattle.copy_move.proofs.owed.first_owed.Given as goal
 
 abbrev pub invariant-loop-first : goal.invariant-loop-first

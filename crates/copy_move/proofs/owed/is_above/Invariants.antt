@@ -5,7 +5,7 @@ use Rattle.mc_text.specs.Routes.{Route}
 use Rattle.tree_trait.specs.declared.file_system.FileSystem.{FileSystem}
 use Rattle.tree_trait.specs.Change.{current}
 use Rattle.tree_trait.specs.Answers.{IfKnown}
-use Rattle.copy_move.specs.Settling.{IsMountOf, LiesApart, LiesOff}
+use Rattle.copy_move.specs.MountNumbers.{IsMountOf, LiesApart, LiesOff}
 use Rattle.copy_move.proofs.owed.is_above.Given as goal
 
 -- off the next folder, if there is one, and off each on the way to it

@@ -2,7 +2,8 @@
 use Rattle.std.proofs.Common.{◌≡◌, sym, ◌∙◌, subst}
 use Rattle.tree_trait.specs.Change.{current}
 use Rattle.tree_trait.proofs.Visible.{same_path-true}
-use Rattle.copy_move.specs.Settling.{LiesApart, LiesOff, changed_folder, left_folder}
+use Rattle.copy_move.specs.Settling.{changed_folder, left_folder}
+use Rattle.copy_move.specs.MountNumbers.{LiesApart, LiesOff}
 use Rattle.copy_move.proofs.owed.is_on_way.Goals as goal
 
 pub returns-then-same-clause-not : goal.returns-then-same-clause-not

@@ -3,7 +3,8 @@ use Rattle.std.proofs.Common.{rules, ◌≡◌, sym, subst}
 use Rattle.tree_trait.specs.Change.{current}
 use Rattle.mc_desk.specs.declared.starts.StartError.{StartError}
 use Rattle.mc_desk.specs.declared.starts.StartMode.TheVariants.{Panels}
-use Rattle.mc_desk.specs.Starts.{IsStartCause, place_of, start_error}
+use Rattle.mc_desk.specs.Starts.{IsStartCause}
+use Rattle.mc_desk.specs.StartedDesks.{place_of, start_error}
 use Rattle.mc_desk.proofs.Openings.{both_lead, opens, start_refused}
 use Rattle.mc_desk.proofs.opening.open_panels.Goals as goal
 

@@ -1,6 +1,6 @@
 -- What the session has read is what the run has.
 use Rattle.std.proofs.Common.{reverse, ◌∙◌}
-use Rattle.mc_main.specs.Headline.{TookAll}
+use Rattle.mc_main.specs.KeysRead.{TookAll}
 use Rattle.mc_main.proofs.Taking.{reads}
 use Rattle.mc_main.proofs.Runs.{ran_session}
 use Rattle.mc_main.proofs.endings.run_desk.Goals as goal

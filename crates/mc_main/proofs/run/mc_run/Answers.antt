@@ -3,9 +3,10 @@ use Rattle.std.proofs.Common.{rules, reverse, inl, inr, refl, ◌≡◌, ◌≤�
 use Rattle.tree_trait.specs.Answers.{HasRisen}
 use Rattle.laws_sessions.specs.Traces.{IsTracedTo}
 use Rattle.mc_desk.specs.declared.starts.Start.{Start}
-use Rattle.mc_desk.specs.Tallies.{faults_in}
+use Rattle.mc_desk.specs.KeysAndFaults.{faults_in}
 use Rattle.mc_main.specs.Beginnings.{asked_in, session_start, surroundings_in, status_with}
-use Rattle.mc_main.specs.Headline.{IsStatusOr, TookAll}
+use Rattle.mc_main.specs.Statuses.{IsStatusOr}
+use Rattle.mc_main.specs.KeysRead.{TookAll}
 use Rattle.mc_main.proofs.Printing.{at_most_five, begins_none, below_four, completes_none, not_at, print_is, prints_it, prints_not, prints_start, put_printed, put_start, refuses_none, session_is, some_prints_not, starts_in, status_few, text_given, usage_asked}
 use Rattle.mc_main.proofs.Starting.{completes, completes_by_five, may_refuse, refuses_by, refuses_listed}
 use Rattle.mc_main.proofs.Taking.{reads_none}

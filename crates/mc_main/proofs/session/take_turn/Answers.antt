@@ -1,7 +1,7 @@
 -- What was taken is no more left, and the byte is the next.
 use Rattle.std.proofs.Common.{ℕ, sym, ◌∙◌, ap, Option, Result, Ok}
 use Rattle.tree_trait.specs.declared.devices.SourceFault.{SourceFault}
-use Rattle.mc_main.specs.Headline.{bytes_given, left_of}
+use Rattle.mc_main.specs.KeysRead.{bytes_given, left_of}
 use Rattle.mc_main.proofs.Taking.{next_byte, took_all}
 use Rattle.mc_main.proofs.session.take_turn.Goals as goal
 

@@ -1,6 +1,6 @@
 -- At the opening nothing was taken.
 use Rattle.std.proofs.Common.{subst}
-use Rattle.mc_desk.specs.Starts.{IsOpened}
+use Rattle.mc_desk.specs.StartedDesks.{IsOpened}
 use Rattle.mc_desk.proofs.Streams.{fed_first}
 use Rattle.mc_desk.proofs.desk.Desk.begin.Goals as goal
 

@@ -1,7 +1,8 @@
 -- The keys of the history are those of the bytes that were taken.
 use Rattle.std.proofs.Common.{reverse, subst}
 use Rattle.tree_trait.specs.Answers.{IfKnown}
-use Rattle.mc_desk.specs.Desks.{Reads, Seen}
+use Rattle.mc_desk.specs.Desks.{Seen}
+use Rattle.mc_desk.specs.KeysTaken.{Reads}
 use Rattle.mc_desk.proofs.Streams.{reads_end}
 use Rattle.mc_desk.proofs.desk.Desk.end.Goals as goal
 

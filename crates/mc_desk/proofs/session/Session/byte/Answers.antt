@@ -1,7 +1,7 @@
 -- The keys that a byte completes are worked, all or but the last.
 use Rattle.std.proofs.Common.{rules, ◌≡◌, ◌+◌, ◌∷◌, ◌++◌, [], None, ap, subst, ◌∙◌}
 use Rattle.key_screen.specs.DecodedKeys.{decoded_keys, keys_fed}
-use Rattle.mc_desk.specs.Tallies.{keys_in}
+use Rattle.mc_desk.specs.KeysAndFaults.{keys_in}
 use Rattle.mc_desk.specs.Desks.{Seen}
 use Rattle.mc_desk.proofs.Taking.{takes_none, takes_one, takes_two, lacks_second}
 use Rattle.mc_desk.proofs.session.Session.byte.Goals as goal

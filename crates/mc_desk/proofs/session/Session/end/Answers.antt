@@ -1,11 +1,11 @@
 -- A session is a trace of its tree's calls.
 use Rattle.std.proofs.Common.{reverse, ap, sym, subst, ◌≡◌, ◌∙◌, None}
-use Rattle.session_entries.specs.Sources.{AreInTurn}
+use Rattle.session_entries.specs.SourcesLeft.{AreInTurn}
 use Rattle.laws_sessions.specs.Traces.{IsTracedTo, Stand, at_rest}
 use Rattle.mc_desk.specs.Sessions.{IsSession, SessionState}
 use Rattle.mc_desk.specs.Desks.{Seen, stand_with, with_end}
 use Rattle.mc_desk.specs.Outputs.{Output}
-use Rattle.mc_desk.specs.Shown.{HasGiven, Put, put_since}
+use Rattle.mc_desk.specs.DeskDevices.{HasGiven, Put, put_since}
 use Rattle.mc_desk.proofs.Adding.{end_noted}
 use Rattle.mc_desk.proofs.Keeping.{session_in_turn, session_traced_to}
 use Rattle.mc_desk.proofs.session.Session.end.Goals as goal

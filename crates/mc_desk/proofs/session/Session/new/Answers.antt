@@ -1,9 +1,9 @@
 -- The opening is a session of no entries.
 use Rattle.std.proofs.Common.{sym, subst, arith, ap}
 use Rattle.mc_desk.specs.Outputs.{FitsScreen}
-use Rattle.mc_desk.specs.Starts.{IsOpened}
+use Rattle.mc_desk.specs.StartedDesks.{IsOpened}
 use Rattle.screen_draw.specs.Drawings.{Display}
-use Rattle.mc_desk.specs.Tallies.{faults_in}
+use Rattle.mc_desk.specs.KeysAndFaults.{faults_in}
 use Rattle.mc_desk.proofs.Keeping.{kept_opening}
 use Rattle.mc_desk.proofs.session.Session.new.Goals as goal
 

@@ -1,7 +1,7 @@
 -- The session is closed, with the same keys; its job comes nearer to its end.
 use Rattle.std.proofs.Common.{◌≡◌, true}
 use Rattle.mc_desk.specs.Desks.{rank_of}
-use Rattle.mc_desk.specs.Tallies.{keys_in}
+use Rattle.mc_desk.specs.KeysAndFaults.{keys_in}
 use Rattle.mc_desk.proofs.session.Session.work_off.Given as goal
 
 abbrev pub invariant-loop-alloc : goal.invariant-loop-alloc
