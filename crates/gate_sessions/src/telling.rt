@@ -3,7 +3,8 @@ use job_reports::{Cause, Did, Ending};
 use key_screen::{Base, Cell, Glyph, Key, read_grid};
 use mc_text::{Name, Path};
 use rows_page::Page;
-use session_entries::{Event, History};
+use session_entries::Event;
+use session_log::History;
 use std::alloc::Global;
 use std::convert::AsStr;
 use tree_trait::{Tree, TreeError};
@@ -18,7 +19,7 @@ pub fn tell_outcome<T: Tree>(
     history: &History,
 ) {
     page.tell(format_args!("status {status}"));
-    if history.entries.0.is_empty() {
+    if history.entries.0.len() == 0 {
         tell_printed(page, printed);
     } else {
         tell_history(page, history);
@@ -89,18 +90,34 @@ fn tell_joined(page: &mut Page, text: &str) {
 
 fn tell_history(page: &mut Page, history: &History) {
     page.put("; keys");
-    for entry in history.entries.0.iter() {
-        if let Event::Key { key, .. } = &entry.what {
-            tell_key(page, *key);
+    let mut walk = history.entries.0.oldest_first(page.alloc());
+    for _ in 0..history.entries.0.len() {
+        match walk.next(page.alloc()) {
+            Ok(Some(met)) => tell_key_of(page, &met.entry().what),
+            Ok(None) | Err(_) => page.fail(),
         }
     }
     page.put("; steps");
-    for entry in history.entries.0.iter() {
-        match &entry.what {
-            Event::Step { job: _, did } => page.put(word_of(did)),
-            Event::Next { .. } => page.put(" next"),
-            _ => {}
+    let mut walk = history.entries.0.oldest_first(page.alloc());
+    for _ in 0..history.entries.0.len() {
+        match walk.next(page.alloc()) {
+            Ok(Some(met)) => tell_step_of(page, &met.entry().what),
+            Ok(None) | Err(_) => page.fail(),
         }
+    }
+}
+
+fn tell_key_of(page: &mut Page, what: &Event) {
+    if let Event::Key { key, .. } = what {
+        tell_key(page, *key);
+    }
+}
+
+fn tell_step_of(page: &mut Page, what: &Event) {
+    match what {
+        Event::Step { job: _, did } => page.put(word_of(did)),
+        Event::Next { .. } => page.put(" next"),
+        _ => {}
     }
 }
 

@@ -1,6 +1,6 @@
 //! What the calls on a session answer.
 use crate::starts::StartError;
-use session_entries::History;
+use session_log::History;
 use thiserror::Error;
 
 /// A start that was refused gives the devices back.

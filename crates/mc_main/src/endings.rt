@@ -19,7 +19,7 @@ use crate::words::Typed;
 use mc_desk::{Desk, Ended, Refused, StartError, Tag, resolve_text};
 use mc_text::{NoMemory, drawn};
 use resolving::ResolveError;
-use session_entries::{Entries, History};
+use session_log::{Entries, History};
 use std::alloc::Global;
 use tree_trait::{Clock, Sink, SinkError, Source, Spawner, Tree};
 
@@ -185,7 +185,7 @@ pub fn without_session<T, S, P>(
         spawner,
         history: History {
             started: 0,
-            entries: Entries(Vec::new(alloc)),
+            entries: Entries::none(alloc),
         },
     }
 }

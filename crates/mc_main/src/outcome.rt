@@ -1,5 +1,5 @@
 //! What a run leaves.
-use session_entries::History;
+use session_log::History;
 
 /// What a run leaves: its status, the devices, and the history of its session.
 #[derive(Drop)]

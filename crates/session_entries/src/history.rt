@@ -3,7 +3,6 @@
 use crate::refusal::Refusals;
 use job_reports::{Answer, Did, Job};
 use key_screen::Key;
-use std::marker::Model;
 
 /// What a job was ordered.
 #[derive(Clone, Copy, Debug, Drop, PartialEq, Eq)]
@@ -60,24 +59,4 @@ pub struct Entry {
     pub faults: u64,
     pub shown: u128,
     pub what: Event,
-}
-
-/// Some entries, the oldest first.
-#[derive(Debug, Drop)]
-pub struct Entries(pub Vec<Entry>);
-
-impl Model for Entries {
-    ghost use Rattle.std.specs.Prelude.{List};
-    ghost use Rattle.session_entries.specs.declared.history.Entry.{Entry};
-
-    ghost Value = { List Entry };
-
-    ghost view = { λ l. l.0.items };
-}
-
-/// The history of a session: how many jobs it began, and its entries.
-#[derive(Debug, Drop)]
-pub struct History {
-    pub started: u64,
-    pub entries: Entries,
 }

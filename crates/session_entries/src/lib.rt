@@ -4,5 +4,5 @@
 mod history;
 mod refusal;
 
-pub use history::{Entries, Entry, Event, History, JobOrder};
+pub use history::{Entry, Event, JobOrder};
 pub use refusal::{BeginError, PlanError, Refusal, Refusals, TypedError};

@@ -1,5 +1,6 @@
 -- A history begins no more jobs than it has entries.
-use Rattle.std.proofs.Common.{◌≡◌, ℕ, ◌+◌, ◌^◌, ◌<◌, ◌≤◌, List, [], ◌∷◌, length, Fits, w64, arith}
+use Rattle.std.proofs.Common.{◌≡◌, ℕ, ◌+◌, ◌≤◌, List, [], ◌∷◌, ◌++◌, length, reverse, refl, ap, ◌∙◌, arith}
+use Rattle.std.proofs.lemmas.List.{reverse-append}
 use Rattle.session_entries.specs.declared.history.Event.{Event}
 use Rattle.session_entries.specs.declared.history.Event.TheVariants.{Key, Look, Sought, Began, Order, Step, Next, Closed}
 use Rattle.session_entries.specs.declared.history.Entry.{Entry}
@@ -19,5 +20,14 @@ pub few_begun : (entries : List Entry) → jobs_begun entries ≤ length entries
 few_begun [] = omega arith
 few_begun (e ∷ more) = let one = one_begun e.what in let few = few_begun more in omega (arith, one, few)
 
-pub fits_count : (count one : ℕ) (e : Entry) (more all : List Entry) → one ≡ begun_by e.what → count + jobs_begun (e ∷ more) ≡ jobs_begun all → length all < 2 ^ 64 → Fits w64 (count + one)
-fits_count count one e more all is counted few = let most = few_begun all in omega (arith, is, counted, most, few)
+jobs_begun-append : (entries more : List Entry) → jobs_begun (entries ++ more) ≡ jobs_begun entries + jobs_begun more
+jobs_begun-append [] more = omega arith
+jobs_begun-append (e ∷ entries) more = let rest = jobs_begun-append entries more in omega (arith, rest)
+
+-- from the other end as many are counted
+pub turned : (entries : List Entry) → jobs_begun (reverse entries) ≡ jobs_begun entries
+turned [] = refl
+turned (e ∷ more) =
+    let rest = turned more in
+    let last = jobs_begun-append (reverse more) (e ∷ []) in
+    ap jobs_begun (reverse-append (e ∷ []) more) ∙ omega (arith, rest, last)

@@ -7,34 +7,32 @@ ghost use Rattle.session_log.specs.Told.{end_news as news_of, is_end_or_look as 
 ghost use Rattle.session_log.specs.Told.{is_report as does_report, news_left as last_news};
 ghost use Rattle.session_log.specs.Told.{reported_waits as waits_in, told_end, waits_told as last_waits};
 
+use crate::history::{Entries, History};
 use job_reports::{Did, Ending, Waits, is_end};
 use mc_text::{NoMemory, Path};
-use session_entries::{Entries, Entry, Event, History};
+use session_entries::{Entry, Event};
+use session_packed::{NewestFirst, PackedEntries};
 use std::alloc::Global;
 use std::marker::Model;
 use ui_words::Message;
 
-/// The most entries of a history: no machine has memory for more, and so no count of
-/// theirs passes its last value.
-const MOST_ENTRIES: usize = 1 << 56;
-
-/// The entries so far. Contracts see them newest first, and how many more find room.
+/// The entries so far, and how many jobs they began. Contracts see them newest first, and
+/// how many more find room.
 #[derive(Debug, Drop)]
 pub struct Log {
-    entries: Vec<Entry>,
+    entries: PackedEntries,
+    started: u64,
 }
 
 impl Model for Log {
-    ghost use Rattle.std.specs.Prelude.{◌-◌, reverse, vec_len};
-    ghost use Rattle.std.specs.Vec.{vec_capacity};
-    ghost use Rattle.session_log.specs.Logs.{Logged};
+    ghost use Rattle.std.specs.Prelude.{◌≡◌};
+    ghost use Rattle.session_log.specs.Logs.{Logged, jobs_begun};
 
     ghost Value = { Logged };
 
-    ghost view = { λ l. record {
-      newest = reverse l.entries.items;
-      spare = vec_capacity l.entries - vec_len l.entries;
-    } };
+    ghost view = { λ l. record { newest = l.entries.newest; spare = l.entries.spare } };
+
+    ghost invariant = { λ l. l.started ≡ jobs_begun l.entries.newest };
 }
 
 impl Log {
@@ -46,7 +44,8 @@ impl Log {
         ensures room { IfOk result (λ log. 1 ≤ log.spare) }
     {
         Ok(Log {
-            entries: Vec::with_capacity(alloc, 1)?,
+            entries: PackedEntries::new(alloc)?,
+            started: 0,
         })
     }
 
@@ -57,9 +56,6 @@ impl Log {
         ensures bounded { OnOk result (length self.new.newest + count ≤ 2 ^ 56) }
         ensures kept { self.old.spare ≤ self.new.spare }
     {
-        if self.entries.len().saturating_add(count) > MOST_ENTRIES {
-            return Err(NoMemory);
-        }
         self.entries.reserve(count)?;
         Ok(())
     }
@@ -70,7 +66,10 @@ impl Log {
         ensures added { self.new.newest ≡ entry ∷ self.old.newest }
         ensures room { self.old.spare ≤ self.new.spare + 1 }
     {
-        let _added = self.entries.push(entry);
+        // No more jobs were begun than there are entries, which are few.
+        let _count = self.entries.len();
+        self.started += begun_by(&entry.what);
+        self.entries.push(entry);
     }
 
     /// Adds what is written directly after an entry, if there is something.
@@ -88,24 +87,25 @@ impl Log {
     pub fn news_left(&self, alloc: Global) -> Result<Option<Message>, NoMemory>
         ensures { IfOk result (λ news. news ≡ last_news self.now.newest) }
     {
-        news_left(alloc, self.entries.as_slice())
+        news_left(alloc, self.entries.newest_first(alloc)?)
     }
 
     /// The question or the trouble that the newest report of a step tells, if it tells of one.
     pub fn waits_told(&self, alloc: Global) -> Result<Option<Waits>, NoMemory>
         ensures { IfOk result (λ waits. waits ≡ last_waits self.now.newest) }
     {
-        waits_told(alloc, self.entries.as_slice())
+        waits_told(alloc, self.entries.newest_first(alloc)?)
     }
 
     /// The history. The newest entry comes last there.
+    #[tactic(auto, using(crate::proofs::Counting::turned))]
     pub fn into_history(self) -> History
         ensures entries { reverse result.entries ≡ self.newest }
         ensures started { result.started ≡ jobs_begun result.entries }
     {
-        let Log { entries } = self;
+        let Log { entries, started } = self;
         History {
-            started: jobs_begun(entries.as_slice()),
+            started,
             entries: Entries(entries),
         }
     }
@@ -124,21 +124,6 @@ pub fn plain_entry(calls: u64, faults: u64, what: Event) -> Entry
     }
 }
 
-/// How many jobs these entries began.
-fn jobs_begun(entries: &[Entry]) -> u64
-    ensures { result ≡ jobs_begun entries.now }
-{
-    // There are no more than a number of 64 bits counts.
-    let _most = entries.len();
-    let mut count: u64 = 0;
-    let mut left = entries;
-    while let Some((entry, more)) = left.split_first() {
-        count += begun_by(&entry.what);
-        left = more;
-    }
-    count
-}
-
 /// One, if an entry began a job.
 fn begun_by(what: &Event) -> u64
     ensures { result ≡ begun_by what.now }
@@ -149,17 +134,16 @@ fn begun_by(what: &Event) -> u64
     }
 }
 
-/// What is to be told of the last end among these entries, if no look has taken this end up. The
-/// newest entry comes last.
-fn news_left(alloc: Global, entries: &[Entry]) -> Result<Option<Message>, NoMemory>
-    ensures { IfOk result (λ news. news ≡ last_news (reverse entries.now)) }
+/// What is to be told of the last end among the entries that are left, if no look has taken this end up.
+fn news_left(alloc: Global, entries: NewestFirst<'_>) -> Result<Option<Message>, NoMemory>
+    ensures { IfOk result (λ news. news ≡ last_news entries.entry) }
 {
     let mut left = entries;
-    while let Some((entry, older)) = left.split_last() {
+    while let Some(met) = left.next(alloc)? {
+        let entry = met.entry();
         if is_end_or_look(&entry.what) {
             return end_news(alloc, &entry.what);
         }
-        left = older;
     }
     Ok(None)
 }
@@ -213,17 +197,16 @@ fn copied(alloc: Global, path: &Option<Path>) -> Result<Option<Path>, NoMemory>
     }
 }
 
-/// The question or the trouble of the newest report among these entries, if it tells of one. The
-/// newest entry comes last.
-fn waits_told(alloc: Global, entries: &[Entry]) -> Result<Option<Waits>, NoMemory>
-    ensures { IfOk result (λ waits. waits ≡ last_waits (reverse entries.now)) }
+/// The question or the trouble of the newest report among the entries that are left, if it tells of one.
+fn waits_told(alloc: Global, entries: NewestFirst<'_>) -> Result<Option<Waits>, NoMemory>
+    ensures { IfOk result (λ waits. waits ≡ last_waits entries.entry) }
 {
     let mut left = entries;
-    while let Some((entry, older)) = left.split_last() {
+    while let Some(met) = left.next(alloc)? {
+        let entry = met.entry();
         if is_report(&entry.what) {
             return reported_waits(alloc, &entry.what);
         }
-        left = older;
     }
     Ok(None)
 }

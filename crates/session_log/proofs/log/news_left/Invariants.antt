@@ -1,11 +1,10 @@
 -- What is left says of the part what all entries say.
 use Rattle.std.proofs.Common.{◌≡◌, length}
-use Rattle.std.specs.Prelude.{reverse}
 use Rattle.session_log.specs.Told.{news_left}
 use Rattle.session_log.proofs.log.news_left.Given as goal
 
 abbrev pub invariant-loop-entry : goal.invariant-loop-entry
-invariant-loop-entry l = news_left (reverse l.left) ≡ news_left (reverse l.fn.entries)
+invariant-loop-entry l = news_left l.left ≡ news_left l.fn.entries
 
 abbrev pub decreases-loop-entry : goal.decreases-loop-entry
 decreases-loop-entry l = length l.left

@@ -1,0 +1,4 @@
+pub mod Blocks
+pub mod ReadingBack
+pub mod Shorts
+pub mod Walks
