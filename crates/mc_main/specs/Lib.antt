@@ -6,3 +6,4 @@ pub mod StartRefusals
 pub mod Statuses
 pub mod OutcomeRuns
 pub mod Printed
+pub mod RunClauses

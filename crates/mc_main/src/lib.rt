@@ -1,6 +1,7 @@
 //! The top call: one run of the file manager over any devices.
 #![tactic(auto)]
 
+mod as_asked;
 mod endings;
 mod outcome;
 mod run;
