@@ -85,12 +85,22 @@ def contract_of(crate, call):
     return "\n".join(found)
 
 
+def has_field(crate, field):
+    """Whether a record of a crate's definitions has such a field."""
+    for file in sorted(os.listdir(f"crates/{crate}/specs")):
+        with open(f"crates/{crate}/specs/{file}", encoding="utf-8") as source:
+            if re.search(rf"^ +pub {field} :", source.read(), re.M):
+                return True
+    return False
+
+
 def check_clause(path, crate, call, clauses, faults):
     """A crate has the call, and it or the trait of devices that it meets has the clauses."""
     contract = contract_of(crate, call)
     faults.unless(contract, path, f"{crate} has no call {call}")
     of_trait = contract_of("tree_trait", call)
-    for clause in clauses:
+    for clause, _, field in (it.partition(".") for it in clauses):
+        faults.unless(not field or has_field(crate, field), path, f"no record of {crate} has a field {field}")
         label = rf"\b{clause}\b" if clause == "ensures" else rf"\b(ensures|requires)\*? {clause}\b"
         stands = re.search(label, contract) or re.search(label, of_trait)
         faults.unless(not contract or stands, path, f"{call} of {crate} has no clause {clause}")
@@ -110,10 +120,10 @@ def check_promises(promises, faults):
         count = len(sentence.split())
         faults.unless(count <= PROMISE_WORDS, path, f"a promise of {count} words: {sentence[:60]} ..")
         faults.unless(not re.search(r"[.;] \S", sentence), path, f"more than one sentence: {sentence[:60]} ..")
-        calls = re.findall(r"`([\w:]+)`: ((?:`\w+`(?:, )?)+)", clause)
+        calls = re.findall(r"`([\w:]+)`: ((?:`[\w.]+`(?:, )?)+)", clause)
         faults.unless(calls or "invariant of `" in clause, path, f"no clause: {sentence[:60]} ..")
         for call, clauses in calls:
-            check_clause(path, crate, call, re.findall(r"\w+", clauses), faults)
+            check_clause(path, crate, call, re.findall(r"[\w.]+", clauses), faults)
         check_wrong_bodies(path, wrong, faults)
 
 
