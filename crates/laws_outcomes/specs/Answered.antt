@@ -1,7 +1,7 @@
 -- What stands at the target of a copy or a move is replaced, kept or asked about only as was answered, a
 -- folder that is merged is merged whole, and one that was emptied is removed only where nothing lies in it;
 -- in the words of the history alone. Histories stand newest first here.
-use Rattle.std.specs.Prelude.{◌≡◌, ◌⊎◌, ◌↔◌, ℕ, ◌<◌, ⊤, Bool, true, false, ◌&&◌, not}
+use Rattle.std.specs.Prelude.{◌≡◌, ◌⊎◌, ◌↔◌, ℕ, ◌<◌, ⊤, ◌==◌, Bool, true, false, ◌&&◌, not}
 use Rattle.std.specs.Prelude.{if◌then◌else◌, List, [], ◌∷◌, length, is_some, Some, None}
 use Rattle.std.specs.Option.{option_map}
 use Rattle.mc_text.specs.Routes.{Route}

@@ -113,7 +113,7 @@ fn usual_width(field: Field) -> Option<usize>
 }
 
 /// A text in exactly so many columns: cut between clusters, or filled with blanks.
-#[tactic(auto, unfolding(crate::specs::Layouts::clipped))]
+#[tactic(auto, unfolding(crate::specs::Layouts::clipped_text))]
 pub fn clipped(alloc: Global, text: &str, columns: usize) -> Result<Text, NoMemory>
     ensures { IfOk result (λ line. line ≡ clipped_text text.now columns) }
 {
