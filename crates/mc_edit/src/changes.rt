@@ -22,7 +22,7 @@ pub fn put(text: &mut GapText, from: usize, to: usize, new: &[u8]) -> Result<(),
 }
 
 /// Takes a change back in the text to which it led.
-#[tactic(auto, unfolding(crate::specs::Changes::unmade, crate::specs::Edits::largest_text))]
+#[tactic(auto, unfolding(crate::specs::Changes::text_before_change, crate::specs::Edits::largest_text))]
 pub fn take_back(text: &mut GapText, change: &Change) -> Result<(), NoMemory>
     requires { Leads change.now (text_before_change change.now text.old.bytes) text.old.bytes }
     ensures done { OnOk result (text.new.bytes ≡ text_before_change change.now text.old.bytes) }
@@ -38,7 +38,7 @@ pub fn take_back(text: &mut GapText, change: &Change) -> Result<(), NoMemory>
 }
 
 /// Makes a change again in the text from which it leads on.
-#[tactic(auto, unfolding(crate::specs::Changes::made, crate::specs::Edits::largest_text))]
+#[tactic(auto, unfolding(crate::specs::Changes::text_after_change, crate::specs::Edits::largest_text))]
 pub fn make_again(text: &mut GapText, change: &Change) -> Result<(), NoMemory>
     requires { Leads change.now text.old.bytes (text_after_change change.now text.old.bytes) }
     ensures done { OnOk result (text.new.bytes ≡ text_after_change change.now text.old.bytes) }
