@@ -1,8 +1,7 @@
-"""Checks of how the program starts and ends: its words, the terminal, signals, and a build that fails."""
+"""Checks of how the program starts and ends: its words, the terminal, and signals."""
 import os
 import shutil
 import signal
-import subprocess
 
 from terminal_run import DOWN, END, ENTER, F10, F8, KEYS, USAGE, make_file, run
 
@@ -72,24 +71,3 @@ def check_words(program, starter, base, check):
     ]:
         status, told, same = run(program, words, [], inside=folder)
         check(f"{words} print their lines alone", status == want and same and told.written == lines)
-
-
-def check_failed_build(starter, base, check):
-    """Where the build fails the starter says why, and starts no program that an earlier build left."""
-    root = os.path.join(base, "repository")
-    program = os.path.join(root, "crates", "mc", "out", "mc")
-    tools = os.path.join(base, "tools")
-    for folder in (os.path.dirname(program), os.path.join(root, ".ci"), tools):
-        os.makedirs(folder)
-    shutil.copy(starter, os.path.join(root, "mc"))
-    shutil.copy(os.path.join(os.path.dirname(starter), ".ci", "build"), os.path.join(root, ".ci", "build"))
-    for path, text in [(program, "echo an old program"), (os.path.join(tools, "rt"), "echo no proof of this; exit 1")]:
-        with open(path, "w") as file:
-            file.write(f"#!/bin/sh\n{text}\n")
-        os.chmod(path, 0o755)
-    os.utime(program, (1, 1))
-    open(os.path.join(root, "crates.txt"), "w").close()
-    surroundings = {**os.environ, "PATH": f"{tools}:{os.environ['PATH']}"}
-    ended = subprocess.run([os.path.join(root, "mc"), base], env=surroundings, stdin=subprocess.DEVNULL, capture_output=True)
-    check("a build that fails is told, with its reason", ended.returncode == 1 and b"no proof of this" in ended.stderr)
-    check("an old program isn't started", b"an old program" not in ended.stdout and not os.path.exists(program))

@@ -8,6 +8,7 @@ import shutil
 import sys
 import tempfile
 
+from build_checks import check_builds
 from job_checks import (
     check_copied_folders, check_copies, check_folders, check_kept_folder, check_links, check_modes, check_questions,
     check_new_folders, check_set_id_bits,
@@ -17,7 +18,7 @@ from move_checks import check_moves
 from panel_box_checks import check_big_home, check_panel_boxes
 from screen_checks import check_find, check_frames, check_panels, check_viewer
 from several_checks import check_several_things
-from start_checks import check_failed_build, check_signals, check_stty, check_words
+from start_checks import check_signals, check_stty, check_words
 from terminal_run import DOWN, ENTER, F10, F8, USAGE, run
 from trouble_checks import (
     check_barred_mode, check_closed_folder, check_dirty_folder, check_list_of_jobs, check_long_path,
@@ -80,7 +81,7 @@ def main():
         check_stty(program, base, check)
         check_words(program, starter, base, check)
         check_signals(starter, base, check)
-        check_failed_build(starter, base, check)
+        check_builds(starter, base, check)
 
         for words, want, line in [
             ([os.path.join(base, "nowhere")], 2, b"no such file or folder"),

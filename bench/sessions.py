@@ -13,7 +13,7 @@ def built(given=None):
     """The program: the one that is given, or that of this folder."""
     program = os.path.abspath(given) if given else os.path.join(TOP, "crates/mc/out/mc")
     if not os.path.exists(program):
-        sys.exit("first: ./mc")
+        sys.exit("first: .ci/run")
     return program
 
 
