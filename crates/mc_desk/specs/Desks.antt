@@ -108,7 +108,7 @@ pub record IsWritten (start : Option Start) (opening contents : Option CallLog) 
     (desk : Seen) : Type 0 where
   pub session : IsSession start opening faults desk.newest (state_of contents desk)
   pub tally : desk.tally ≡ tally desk.newest
-  pub told : desk.tally.job ≡ option_map told desk.job
+  pub told : desk.tally.job ≡ option_map told_job desk.job
   pub left : desk.later ≡ sources_left desk.newest
   pub calls : desk.tally.calls ≤ 3 * length desk.newest
 

@@ -1,5 +1,5 @@
 -- A history begins no more jobs than it has entries.
-use Rattle.std.proofs.Common.{◌≡◌, ℕ, ◌+◌, ◌≤◌, List, [], ◌∷◌, ◌++◌, length, reverse, refl, ap, ◌∙◌, arith}
+use Rattle.std.proofs.Common.{◌≡◌, ℕ, ◌+◌, ◌^◌, ◌≤◌, Fits, w64, List, [], ◌∷◌, ◌++◌, length, reverse, refl, ap, ◌∙◌, arith}
 use Rattle.std.proofs.lemmas.List.{reverse-append}
 use Rattle.session_entries.specs.declared.history.Event.{Event}
 use Rattle.session_entries.specs.declared.history.Event.TheVariants.{Key, Look, Sought, Began, Order, Step, Next, Closed}
@@ -31,3 +31,7 @@ turned (e ∷ more) =
     let rest = turned more in
     let last = jobs_begun-append (reverse more) (e ∷ []) in
     ap jobs_begun (reverse-append (e ∷ []) more) ∙ omega (arith, rest, last)
+
+-- the jobs that were begun, and one more, are a number of 64 bits, since no history has more entries than 2^56
+pub fits_begun : (started more count : ℕ) (what : Event) (entries : List Entry) → started ≡ jobs_begun entries → more ≡ begun_by what → count ≡ length entries → count ≤ 2 ^ 56 → Fits w64 (started + more)
+fits_begun started more count what entries counted one is few = let begun = few_begun entries in let each = one_begun what in omega (arith, counted, one, is, few, begun, each)
