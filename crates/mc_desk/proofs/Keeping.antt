@@ -82,7 +82,7 @@ before contents desk = record { contents = contents; tally = desk.tally; rows = 
 pub record Adds (contents contents_after : Option CallLog) (faults : ℕ) (old new : Seen) (e : Entry) : Type 0 where
   pub more : new.newest ≡ e ∷ old.newest
   pub tally : new.tally ≡ after_entry e old.tally
-  pub told : new.tally.job ≡ option_map told new.job
+  pub told : new.tally.job ≡ option_map told_job new.job
   pub turn : IsInTurn e.what old.later
   pub left : new.later ≡ left_after e.what old.later
   pub timely : IsTimely e.what (noted_screen old)
