@@ -178,7 +178,7 @@ module _ (told : HistoryFacts) (dirty dirty_after : List Route) (marks : Marks) 
   Then passed did old new = Unless did (WorkDone (passed_in (Some (item_in old)) did passed) begun (replayed_step now did (Some (item_in old)) told.tree) (current now) new)
 
   -- where a mode is set something stands
-  stands : (s : Setting) (did : Did) → WorkKnows told dirty marks log GoesOn (SetMode s) → SettingCalls s did log (Some now) → (path : Route) → did ≡ Set path → (x : Value) × ((told.tree s.path).value ≡ Some x)
+  pub stands : (s : Setting) (did : Did) → WorkKnows told dirty marks log GoesOn (SetMode s) → SettingCalls s did log (Some now) → (path : Route) → did ≡ Set path → (x : Value) × ((told.tree s.path).value ≡ Some x)
   stands s did (name, none) called path is =
       let done : AllDone log (Sets_mode s.path s.mode ∷ []) (Some now) = subst (λ (x : Did). SettingCalls s x log (Some now)) is called in
       let d = one_done log (Sets_mode s.path s.mode) now done in (
@@ -188,7 +188,7 @@ module _ (told : HistoryFacts) (dirty dirty_after : List Route) (marks : Marks) 
       )
 
   -- what is moved lies apart from where it goes
-  goes_apart : (replies : Replies) (m : Moving) (did : Did) → WorkKnows told dirty marks log GoesOn (Move m) → MovingCalls replies m did log (Some now) → (pair : Pair) → did ≡ Moved pair → AreApart m.pair
+  pub goes_apart : (replies : Replies) (m : Moving) (did : Did) → WorkKnows told dirty marks log GoesOn (Move m) → MovingCalls replies m did log (Some now) → (pair : Pair) → did ≡ Moved pair → AreApart m.pair
   goes_apart replies m did knows called pair is =
       let renamed = subst (λ (x : Did). MovingCalls replies m x log (Some now)) is called in
       let d = done_call log (Rename m.pair.source m.pair.target) now renamed.1 in

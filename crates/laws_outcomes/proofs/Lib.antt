@@ -7,6 +7,9 @@ pub mod BegunTrees
 pub mod ChangedPaths
 pub mod CopyOutcome
 pub mod CopyTouches
+pub mod CutCopies
+pub mod CutLive
+pub mod CutSteps
 pub mod Deciding
 pub mod Deletions
 pub mod Doing

@@ -23,7 +23,7 @@ use Rattle.laws_sessions.proofs.Intact.{prefix_append}
 use Rattle.laws_outcomes.specs.AllSources.{AllSourcesLaw, GoesOn, IsLeftSince, concerns, is_elsewhere}
 use Rattle.laws_outcomes.specs.Begun.{begun_after, tree_begun}
 use Rattle.laws_outcomes.specs.Outcomes.{IsOutcome, as_copied}
-use Rattle.laws_outcomes.specs.Untouched.{touches}
+use Rattle.session_entries.specs.Touched.{touches}
 use Rattle.laws_outcomes.proofs.Elsewhere.{untouched_law}
 use Rattle.laws_outcomes.proofs.Outcome.{outcome_law}
 

@@ -35,7 +35,7 @@ use Rattle.laws_sessions.specs.Traces.{IsUnclaimed, before_others, ordered_job, 
 use Rattle.laws_sessions.proofs.Deleted.{put_off}
 use Rattle.laws_sessions.proofs.MovedPaths.{moved_off}
 use Rattle.laws_sessions.proofs.Sources.{IsSame, answer_same, item_in, making_item}
-use Rattle.laws_outcomes.specs.Untouched.{touches}
+use Rattle.session_entries.specs.Touched.{touches}
 use Rattle.laws_outcomes.proofs.ChangedPaths.{IsChanged}
 use Rattle.laws_outcomes.proofs.CopyTouches.{tree_touches}
 use Rattle.laws_outcomes.proofs.Doing.{CourseDone, WorkDone}

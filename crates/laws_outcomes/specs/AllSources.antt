@@ -21,7 +21,7 @@ use Rattle.laws_sessions.specs.Replayed.{replayed_tree}
 use Rattle.laws_sessions.specs.Traces.{IsTraced, Stand}
 use Rattle.laws_outcomes.specs.Begun.{tree_begun}
 use Rattle.laws_outcomes.specs.Outcomes.{Finishes, IsOutcome, passed_over}
-use Rattle.laws_outcomes.specs.Untouched.{touches}
+use Rattle.session_entries.specs.Touched.{touches}
 
 -- what is copied stands here
 abbrev pub is_copied : ItemOfJob → Route → Bool

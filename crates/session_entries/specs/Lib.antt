@@ -4,3 +4,4 @@ pub mod Moves
 pub mod Named
 pub mod Refusals
 pub mod Sources
+pub mod Touched
