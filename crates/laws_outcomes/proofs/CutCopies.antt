@@ -102,7 +102,7 @@ module _ (told : HistoryFacts) (dirty dirty_after : List Route) (marks : Marks) 
       let has = h.1 in
       let fill = h.2 refl in
       subst (λ p. Fact (common.Placed p)) (sym path_is)
-      (f.source, m, value (node (current log) fill.n), stands_at f.source part fill.n has.part_is fill.apart fill.source_leads, inl fill.file)
+      (f.source, m, (value (node (current log) fill.n), stands_at f.source part fill.n has.part_is fill.apart fill.source_leads, inl fill.file))
   file_stage_fact f moved (common.Cleaned part) k m (follows, stage, new_is) = (let h = (subst (StageKnows told marks (current log) GoesOn f) stage k).1 in let has = h.1 in has.part_is)
   file_stage_fact f moved (common.Began part) k m t = tt
   file_stage_fact f moved (common.Chunk count) k m t = tt
@@ -123,7 +123,7 @@ module _ (told : HistoryFacts) (dirty dirty_after : List Route) (marks : Marks) 
       let has = k.has in
       let copies = k.copies in
       subst (λ p. Fact (common.Placed p)) (sym path_is)
-      (l.source, m, value (node (current log) copies.n), stands_at l.source l.part copies.n has.part_is copies.apart copies.source_leads, inr copies.link)
+      (l.source, m, (value (node (current log) copies.n), stands_at l.source l.part copies.n has.part_is copies.apart copies.source_leads, inr copies.link))
   link_fact l moved (common.Cleaned part) (stands, k) m (follows, stage, part_is, new_is) = (let has = k.has in has.part_is ∙ ap (λ p. (let o : Option Route = Some p in o)) (sym part_is))
   link_fact l moved (common.Began part) h m t = tt
   link_fact l moved (common.Chunk count) h m t = tt
@@ -157,7 +157,7 @@ module _ (told : HistoryFacts) (dirty dirty_after : List Route) (marks : Marks) 
   folder_fact : (pair : Pair) (mode : ℕ) (moved : FolderCopying) (report : FolderDid) (did : Did) → IsToldAs report did → Tells (copying pair.source pair.target (at.Make mode) Synced) report moved
       → IsMoved top pair.source pair.target → (x : Value) → (told.tree pair.source).value ≡ Some x → x.kind ≡ kind.Folder → Fact did
   folder_fact pair mode moved (folder_did.Made path) did says (other, stage, path_is, new_is) m x stands folder =
-      subst Fact (sym (says ∙ ap common.Made path_is)) (pair.source, m, x, stands, folder)
+      subst Fact (sym (says ∙ ap common.Made path_is)) (pair.source, m, (x, stands, folder))
   folder_fact pair mode moved (folder_did.Set path) did says (other, stage, path_is, new_is) m x stands folder = absurd (let f : ⊥ = cc in f)
   folder_fact pair mode moved folder_did.Barrier did says t m x stands folder = subst Fact (sym says) tt
   folder_fact pair mode moved folder_did.Closed did says t m x stands folder = absurd says

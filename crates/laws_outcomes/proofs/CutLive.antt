@@ -17,7 +17,7 @@ use Rattle.session_entries.specs.declared.history.Event.TheVariants as event
 use Rattle.session_entries.specs.declared.history.Entry.{Entry}
 use Rattle.session_entries.specs.LiveJobs.{LiveJob, after_event, after_report, live, live_jobs, turned_live_job}
 use Rattle.session_entries.specs.Sources.{first_item}
-use Rattle.session_entries.specs.Touched.{IsLeftSince, taken_by, taken_up, touches}
+use Rattle.session_entries.specs.Touched.{IsUntakenSince, taken_by, taken_up, touches}
 use Rattle.copy_move.specs.Jobs.{Running}
 use Rattle.laws_sessions.specs.Traces.{EventLeads, Follows, IsTraced, Stand}
 use Rattle.laws_sessions.proofs.Going.{only_job}
@@ -30,6 +30,19 @@ use Rattle.laws_sessions.proofs.Sources.{item_in}
 abbrev pub AllLive : (ItemOfJob → Type 0) → List LiveJob → Type 0
 AllLive Is [] = ⊤
 AllLive Is (job ∷ jobs) = Is job.item × AllLive Is jobs
+
+-- each live job is such
+abbrev pub AllJobs : (LiveJob → Type 0) → List LiveJob → Type 0
+AllJobs Is [] = ⊤
+AllJobs Is (job ∷ jobs) = Is job × AllJobs Is jobs
+
+-- it was just taken up
+abbrev pub IsJust : ItemOfJob → LiveJob → Type 0
+IsJust item job = (job.item ≡ item) × (job.part ≡ None)
+
+pub at_items : (item : ItemOfJob) (jobs : List LiveJob) → AllJobs (IsJust item) jobs → AllLive (λ i. i ≡ item) jobs
+at_items item [] all = tt
+at_items item (job ∷ jobs) all = ((let h = all.0 in h.0), at_items item jobs all.1)
 
 module _ (Is : ItemOfJob → Type 0) where
   -- a report leaves each at its source, or ends one
@@ -83,21 +96,21 @@ module _ (opening : CallLog) (tree : IsTree (current opening)) (settled : all_se
   r : IsReached opening older was before
   r = traced_reached opening tree settled older was before traced
 
-  begins : (id : ℕ) (item : ItemOfJob) (o : Option ItemOfJob) (jobs : List LiveJob) → jobs ≡ [] → o ≡ Some item → AllLive (λ i. i ≡ item) (option_map_or (λ x. live id x ∷ jobs) o jobs)
+  begins : (id : ℕ) (item : ItemOfJob) (o : Option ItemOfJob) (jobs : List LiveJob) → jobs ≡ [] → o ≡ Some item → AllJobs (IsJust item) (option_map_or (λ x. live id x ∷ jobs) o jobs)
   begins id item None jobs none is = absurd (let f : ⊥ = cc in f)
-  begins id item (Some x) jobs none is = (let e : x ≡ item = cc in e, subst (AllLive (λ i. i ≡ item)) (sym none) tt)
+  begins id item (Some x) jobs none is = (((let e : x ≡ item = cc in e), refl), subst (AllJobs (IsJust item)) (sym none) tt)
 
-  turned : (b : Bool) (id : ℕ) (item : ItemOfJob) (job : LiveJob) → b ≡ true → (let l : LiveJob = if◌then◌else◌ b (live id item) job in l.item) ≡ item
-  turned true id item job is = refl
+  turned : (b : Bool) (id : ℕ) (item : ItemOfJob) (job : LiveJob) → b ≡ true → IsJust item (if◌then◌else◌ b (live id item) job)
+  turned true id item job is = (refl, refl)
   turned false id item job is = absurd (true≢false (sym is))
 
-  turns : (id : ℕ) (item : ItemOfJob) (o : Option ItemOfJob) (job : LiveJob) (jobs : List LiveJob) → jobs ≡ job ∷ [] → job.id ≡ id → o ≡ Some item → AllLive (λ i. i ≡ item) (option_map_or (λ x. map (turned_live_job id x) jobs) o jobs)
+  turns : (id : ℕ) (item : ItemOfJob) (o : Option ItemOfJob) (job : LiveJob) (jobs : List LiveJob) → jobs ≡ job ∷ [] → job.id ≡ id → o ≡ Some item → AllJobs (IsJust item) (option_map_or (λ x. map (turned_live_job id x) jobs) o jobs)
   turns id item None job jobs one is taken = absurd (let f : ⊥ = cc in f)
   turns id item (Some x) job jobs one is taken =
-      subst (λ js. AllLive (λ i. i ≡ item) (map (turned_live_job id x) js)) (sym one)
-      (turned (job.id == id) id x job (eq-eqb job.id id is) ∙ (let e : x ≡ item = cc in e), tt)
+      subst (λ js. AllJobs (IsJust item) (map (turned_live_job id x) js)) (sym one)
+      (subst (λ i. IsJust i (turned_live_job id x job)) (let e : x ≡ item = cc in e) (turned (job.id == id) id x job (eq-eqb job.id id is)), tt)
 
-  pub taken_live : (what : Event) (after : Stand) (now : CallLog) (item : ItemOfJob) → EventLeads was what after before now → taken_by what ≡ Some item → AllLive (λ i. i ≡ item) (after_event what (live_jobs older))
+  pub taken_live : (what : Event) (after : Stand) (now : CallLog) (item : ItemOfJob) → EventLeads was what after before now → taken_by what ≡ Some item → AllJobs (IsJust item) (after_event what (live_jobs older))
   taken_live (event.Began id plan background) after now item s is =
       begins id item (first_item plan) (live_jobs older) (subst (λ js. HasLive (live_jobs older) js r.part) s.none_live r.live) is
   taken_live (Next id plan) after now item s is =
@@ -131,7 +144,7 @@ taken_either what = by (taken_by what) refl
 -- Since a source was taken up, or nothing yet, no source was that is such: none was at all, or the live job is at one that isn't.
 module _ (opening : CallLog) (tree : IsTree (current opening)) (settled : all_settled opening.changes ≡ true) (begun : List Entry) (is_such : ItemOfJob → Bool) where
   abbrev pub IsAtFirst : List Entry → Type 0
-  IsAtFirst g = IsLeftSince begun any_item g × AllLive (λ i. taken_up begun ≡ Some i) (live_jobs g)
+  IsAtFirst g = IsUntakenSince begun any_item g × AllLive (λ i. taken_up begun ≡ Some i) (live_jobs g)
 
   abbrev pub IsOff : List Entry → Type 0
   IsOff g = AllLive (λ i. is_such i ≡ false) (live_jobs g)
@@ -146,14 +159,14 @@ module _ (opening : CallLog) (tree : IsTree (current opening)) (settled : all_se
   at_first (e ∷ older) stand now (was, before, traced, f) same (inr (item, is)) = (
     inl same,
     all_map (λ i. i ≡ item) (λ i. taken_up begun ≡ Some i) (live_jobs (e ∷ older)) (λ i at. is ∙ ap (λ x. (let o : Option ItemOfJob = Some x in o)) (sym at))
-    (taken_live opening tree settled older was before traced e.what f.after now item f.leads (sym (ap taken_up same) ∙ is)),
+    (at_items item (live_jobs (e ∷ older)) (taken_live opening tree settled older was before traced e.what f.after now item f.leads (sym (ap taken_up same) ∙ is))),
   )
 
   off_of : (item : ItemOfJob) (o : Option ItemOfJob) → o ≡ Some item → option_map_or is_such o false ≡ false → is_such item ≡ false
   off_of item None is off = absurd (let f : ⊥ = cc in f)
   off_of item (Some x) is off = (let e : x ≡ item = cc in ap is_such (sym e) ∙ off)
 
-  pub live_since : (g : List Entry) (stand : Stand) (now : CallLog) → IsTraced opening g stand now → IsLeftSince begun is_such g → Begins → IsAtFirst g ⊎ IsOff g
+  pub live_since : (g : List Entry) (stand : Stand) (now : CallLog) → IsTraced opening g stand now → IsUntakenSince begun is_such g → Begins → IsAtFirst g ⊎ IsOff g
   live_since [] stand now traced same begins = inl (at_first [] stand now traced same begins)
   live_since (e ∷ older) stand now traced (inl same) begins = inl (at_first (e ∷ older) stand now traced same begins)
   live_since (e ∷ older) stand now (was, before, traced, f) (inr (off, since)) begins = by (taken_either e.what) (live_since older was before traced since begins)
@@ -163,4 +176,4 @@ module _ (opening : CallLog) (tree : IsTree (current opening)) (settled : all_se
       by (inl none) (inr at) = inr (event_live (λ i. is_such i ≡ false) e.what (live_jobs older) none at)
       by (inr (item, is)) known =
           inr (all_map (λ i. i ≡ item) (λ i. is_such i ≡ false) (live_jobs (e ∷ older)) (λ i at. ap is_such at ∙ off_of item (taken_by e.what) is off)
-          (taken_live opening tree settled older was before traced e.what f.after now item f.leads is))
+          (at_items item (live_jobs (e ∷ older)) (taken_live opening tree settled older was before traced e.what f.after now item f.leads is)))

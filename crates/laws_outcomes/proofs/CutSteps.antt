@@ -1,15 +1,16 @@
 -- What a step of a job reports that names a path, by what the job is at.
-use Rattle.std.proofs.Common.{◌≡◌, ◌⊎◌, ℕ, Bool, true, false, List, [], ◌∷◌, refl, sym, ◌∙◌, ap, subst, inl, inr, Option, Some, None}
-use Rattle.std.specs.Prelude.{⊤, ◌||◌}
+use Rattle.std.proofs.Common.{◌≡◌, ◌⊎◌, ℕ, Bool, true, false, List, [], ◌∷◌, ◌++◌, refl, sym, ◌∙◌, ap, subst, inl, inr, Option, Some, None}
+use Rattle.std.specs.Prelude.{⊤, ◌||◌, is_some}
 use Rattle.std.specs.Option.{option_map}
 use Rattle.std.proofs.lemmas.Bool.{false≢true}
 use Rattle.mc_text.specs.Routes.{Route, is_prefix, same_path}
 use Rattle.tree_trait.specs.Change.{CallLog, current}
 use Rattle.tree_trait.specs.CrashImages.{Among}
-use Rattle.tree_trait.specs.FileSystem.{Value, View}
+use Rattle.tree_trait.specs.FileSystem.{Value, View, find, node, value}
 use Rattle.tree_trait.specs.declared.file_system.FileSystem.{FileSystem}
 use Rattle.tree_trait.proofs.Visible.{same_path-self, same_path-true}
 use Rattle.laws_crash.specs.Guarded.{Marks}
+use Rattle.laws_crash.proofs.Tops.{none_below}
 use Rattle.job_answers.specs.declared.replies.Replies.{Replies}
 use Rattle.job_reports.specs.declared.job.Pair.{Pair}
 use Rattle.job_reports.specs.declared.report.Cause.{Cause}
@@ -34,7 +35,7 @@ use Rattle.mode_job.specs.Settings.{Setting}
 use Rattle.mode_job.specs.ModeSettings as modes
 use Rattle.emptied_job.specs.Removals as removals
 use Rattle.emptied_job.specs.Removals.{Removing}
-use Rattle.copy_job.specs.Reporting.{MayTell}
+use Rattle.copy_job.specs.Reporting.{MayTell, MayTellLast}
 use Rattle.copy_job.specs.Standing.{SubtreeCopying, part_of}
 use Rattle.copy_tree.specs.InPlace.{IsMoved}
 use Rattle.copy_move.specs.declared.run.Course.{Course}
@@ -45,15 +46,18 @@ use Rattle.copy_move.specs.Jobs.{CallsOn, Running, TellsOn, WorkCalls, WorkTells
 use Rattle.copy_move.specs.Jobs as jobs
 use Rattle.copy_move.specs.JobStepReports.{SyncsOwed, Walks, WalksOn}
 use Rattle.laws_sessions.specs.Traces.{IsUnclaimed, StepLeads, WorkLeads}
-use Rattle.laws_sessions.proofs.Intact.{prefix_append}
+use Rattle.laws_sessions.proofs.HollowThings.{none_below_file}
+use Rattle.laws_sessions.proofs.OwedModes.{ShowsTree}
 use Rattle.laws_sessions.proofs.JobKnows.{WorkKnows}
 use Rattle.laws_sessions.proofs.Knowing.{IsKept, HistoryFacts}
 use Rattle.laws_sessions.proofs.Sources.{item_in, making_item}
 use Rattle.laws_sessions.proofs.TreeKnown.{ItemHas, LeavesPart, leaves_part}
-use Rattle.laws_outcomes.proofs.ApartPaths.{AreApart}
+use Rattle.laws_outcomes.proofs.ApartPaths.{AreApart, GoesTo}
 use Rattle.laws_outcomes.proofs.ChangedPaths.{IsChanged}
 use Rattle.laws_outcomes.proofs.CutCopies.{CopyFact, copy_fact}
-use Rattle.laws_outcomes.proofs.Doing.{CourseDone, JobDone, WorkDone, goes_apart, stands}
+use Rattle.laws_outcomes.proofs.Doing.{CourseDone, JobDone, WorkDone, goes_to, stands}
+use Rattle.laws_outcomes.proofs.CopyOutcome.{shows_all}
+use Rattle.laws_outcomes.proofs.FileWork.{none_shown}
 
 -- the report names no path
 abbrev pub IsPlainReport : Did → Type 0
@@ -88,10 +92,16 @@ abbrev pub OnlySets : Route → View → Did → Type 0
 OnlySets path v (Set changed) = (changed ≡ path) × ((x : Value) × ((v path).value ≡ Some x))
 OnlySets path v did = IsPlainReport did
 
--- or only what is moved, apart from where it goes
-abbrev pub OnlyMoves : Pair → Did → Type 0
-OnlyMoves moved (Moved pair) = (pair ≡ moved) × AreApart moved
-OnlyMoves moved did = IsPlainReport did
+-- What is moved stands, lies apart from where it goes, and nothing lies below that.
+pub record IsGoing (v : View) (moved : Pair) : Type 0 where
+  pub apart : AreApart moved
+  pub some : is_some (v moved.source).value ≡ true
+  pub under : (name : List ℕ) (rest : Route) → (v (name ∷ rest ++ moved.target)).value ≡ None
+
+-- or only what is moved
+abbrev pub OnlyMoves : View → Pair → Did → Type 0
+OnlyMoves v moved (Moved pair) = (pair ≡ moved) × IsGoing v moved
+OnlyMoves v moved did = IsPlainReport did
 
 -- an end names the part that stands, or none
 abbrev pub EndFact : Option Route → Did → Type 0
@@ -103,7 +113,7 @@ pair_at source target = record { source = source; target = target }
 
 abbrev pub StepFact : ItemOfJob → View → Option Route → Did → Type 0
 StepFact (Copies source target) v stood did = CopyFact (pair_at source target) v stood did × EndFact stood did
-StepFact (Moves source target) v stood did = OnlyMoves (pair_at source target) did
+StepFact (Moves source target) v stood did = OnlyMoves v (pair_at source target) did
 StepFact (Removes top) v stood did = OnlyRemoves (Removes top) did
 StepFact (Makes made) v stood did = OnlyMakes made did
 StepFact (MakesLink made text) v stood did = OnlyMakes made did
@@ -167,16 +177,16 @@ setting_fact replies s new Barrier v stands_there t = tt
 setting_fact replies s new (Ended Finished part) v stands_there (is_done, part_is, new_is) = part_is
 setting_fact replies s new did v stands_there t = absurd t
 
-moving_fact : (replies : Replies) (m new : Moving) (did : Did) → ((pair : Pair) → did ≡ Moved pair → AreApart m.pair) → movings.Tells replies m did new → OnlyMoves m.pair did
-moving_fact replies m new (Moved pair) apart (stage, pair_is, new_is) = (pair_is, apart pair refl)
-moving_fact replies m new (Kept path) apart t = tt
-moving_fact replies m new (Skipped path cause) apart t = tt
-moving_fact replies m new Barrier apart t = tt
-moving_fact replies m new (Asked question) apart t = tt
-moving_fact replies m new (Merges transfer pair names) apart t = tt
-moving_fact replies m new (Troubled trouble) apart t = tt
-moving_fact replies m new (Ended Finished part) apart (is_done, part_is, new_is) = part_is
-moving_fact replies m new did apart t = absurd t
+moving_fact : (replies : Replies) (m new : Moving) (did : Did) (v : View) → ((pair : Pair) → did ≡ Moved pair → IsGoing v m.pair) → movings.Tells replies m did new → OnlyMoves v m.pair did
+moving_fact replies m new (Moved pair) v apart (stage, pair_is, new_is) = (pair_is, apart pair refl)
+moving_fact replies m new (Kept path) v apart t = tt
+moving_fact replies m new (Skipped path cause) v apart t = tt
+moving_fact replies m new Barrier v apart t = tt
+moving_fact replies m new (Asked question) v apart t = tt
+moving_fact replies m new (Merges transfer pair names) v apart t = tt
+moving_fact replies m new (Troubled trouble) v apart t = tt
+moving_fact replies m new (Ended Finished part) v apart (is_done, part_is, new_is) = part_is
+moving_fact replies m new did v apart t = absurd t
 
 removal_fact : (replies : Replies) (r new : Removing) (did : Did) → removals.Tells replies r did new → OnlyRemoves (RemovesEmptied r.path) did
 removal_fact replies r new (Removed path) (stage, path_is, new_is) = subst (λ p. same_path p r.path ≡ true) (sym path_is) (same_path-self r.path)
@@ -217,6 +227,21 @@ module _ (told : HistoryFacts) (dirty dirty_after : List Route) (marks : Marks) 
   abbrev Fact : Work → Did → Type 0
   Fact work did = StepFact (item_in work) told.tree told.part did
 
+  -- what is moved goes so
+  going : (m : Moving) → told.part ≡ None → GoesTo log m.pair → IsGoing told.tree m.pair
+  going m none g = record {
+    apart = g.apart;
+    some = ap is_some (sym (shows m.pair.source) ∙ ap (option_map (λ i. value (node (current log) i))) g.leads);
+    under = λ name rest. none_shown told.tree log kept.known.guarded.tree shows (name ∷ rest ++ m.pair.target) (under name rest (find (current log) m.pair.target) refl);
+  }
+    where
+      shows : ShowsTree told.tree log
+      shows = shows_all told dirty marks log kept none
+
+      under : (name : List ℕ) (rest : Route) (o : Option ℕ) → find (current log) m.pair.target ≡ o → find (current log) (name ∷ rest ++ m.pair.target) ≡ None
+      under name rest None free = none_below log (name ∷ rest) m.pair.target free
+      under name rest (Some i) at = none_below_file (current log) kept.known.guarded.tree m.pair.target i at (g.bare i at) name rest
+
   -- the work goes on
   work_fact : (replies : Replies) (old new : Work) (did : Did) (calls faults faults_after : ℕ) (passed : List Route) (begun : View) → WorkKnows told dirty marks log GoesOn old → WorkTells replies old did new
       → WorkCalls IsUnclaimed replies old did new log (Some now) → Walks IsUnclaimed replies old new did calls dirty dirty_after (Some log) (Some now) faults faults_after → WorkDone passed begun told.tree (current log) old → Fact old did
@@ -225,7 +250,7 @@ module _ (told : HistoryFacts) (dirty dirty_after : List Route) (marks : Marks) 
   work_fact replies (Delete d) (Delete new) did calls faults faults_after passed begun knows t called walks k = deletion_fact replies d new did t
   work_fact replies (Make m) (Make new) did calls faults faults_after passed begun knows t called walks k = made_only told.tree told.part m.thing m.path did (making_fact m new did t)
   work_fact replies (Move m) (Move new) did calls faults faults_after passed begun knows t called walks k =
-      moving_fact replies m new did (goes_apart told dirty dirty_after marks log now kept begun replies m did knows called) t
+      moving_fact replies m new did told.tree (λ pair is. going m knows.none (goes_to told dirty dirty_after marks log now kept begun replies m did knows called pair is)) t
   work_fact replies (SetMode s) (SetMode new) did calls faults faults_after passed begun knows t called walks k =
       setting_fact replies s new did told.tree (stands told dirty dirty_after marks log now kept begun s did knows called) t
   work_fact replies (RemoveEmptied r) (RemoveEmptied new) did calls faults faults_after passed begun knows t called walks k = removal_fact replies r new did t
@@ -242,7 +267,7 @@ module _ (told : HistoryFacts) (dirty dirty_after : List Route) (marks : Marks) 
   making_wound ending m new (Ended how part) (stage, how_is, part_is, new_is) = part_is
   making_wound ending m new did t = absurd t
 
-  moving_wound : (ending : Ending) (m new : Moving) (did : Did) → movings.Winds ending m did new → OnlyMoves m.pair did
+  moving_wound : (ending : Ending) (m new : Moving) (did : Did) → movings.Winds ending m did new → OnlyMoves told.tree m.pair did
   moving_wound ending m new Barrier t = tt
   moving_wound ending m new (Ended how part) (clean, how_is, part_is, new_is) = part_is
   moving_wound ending m new did t = absurd t
@@ -257,7 +282,7 @@ module _ (told : HistoryFacts) (dirty dirty_after : List Route) (marks : Marks) 
   removal_wound ending r new (Ended how part) (clean, how_is, part_is, new_is) = part_is
   removal_wound ending r new did t = absurd t
 
-  copy_wound : (ending : Ending) (c : SubtreeCopying) (did : Did) → told.part ≡ part_of c.at.item → Rattle.copy_job.specs.Reporting.MayTellLast ending (part_of c.at.item) did → StepFact (Copies c.top.source c.top.target) told.tree told.part did
+  copy_wound : (ending : Ending) (c : SubtreeCopying) (did : Did) → told.part ≡ part_of c.at.item → MayTellLast ending (part_of c.at.item) did → StepFact (Copies c.top.source c.top.target) told.tree told.part did
   copy_wound ending c (Cleaned part) same may = (same ∙ may, tt)
   copy_wound ending c Barrier same may = (tt, tt)
   copy_wound ending c (Ended how part) same (how_is, part_is) = (tt, inr (same ∙ sym part_is))

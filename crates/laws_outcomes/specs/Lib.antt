@@ -1,9 +1,9 @@
 pub mod AllSources
 pub mod Answered
+pub mod Arrivals
 pub mod Begun
 pub mod Keeps
 pub mod KeepsFiles
-pub mod NewThings
 pub mod Outcomes
 pub mod PowerCut
 pub mod Untouched

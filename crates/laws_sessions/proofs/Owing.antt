@@ -123,8 +123,8 @@ owed_apart told dirty marks log work up known none (inr (other, among, joined)) 
   )
 ]
   where
-    beside : IsBeside log up joined_folders.g
-    beside = known.joint joined_folders.f joined_folders.g up joined_folders.joint joined_folders.at
+    beside : IsBeside log up joined.g
+    beside = known.joint joined.f joined.g up joined.joint joined.at
 
 pub in_filter : (keeps : Route → Bool) (q : Route) (routes : List Route) → Among (filter keeps routes) q → Among routes q
 in_filter keeps q [] among = absurd among

@@ -22,6 +22,7 @@ use Rattle.laws_outcomes.specs.AllSources.{LeavesAll}
 use Rattle.laws_outcomes.specs.Answered.{FollowsAnswers}
 use Rattle.laws_outcomes.specs.Keeps.{LeavesKept}
 use Rattle.laws_outcomes.specs.Outcomes.{IsOutcome, Leaves}
+use Rattle.laws_outcomes.specs.PowerCut.{KeepsAll}
 use Rattle.laws_outcomes.specs.Untouched.{LeavesAlone}
 use Rattle.mc_desk.specs.Tallies.{keys_in}
 use Rattle.mc_desk.specs.declared.starts.Start.{Start}
@@ -140,6 +141,12 @@ IsCut end = (end ≡ Some ScreenFailed) ⊎ (end ≡ Some NoMemory)
 abbrev pub LeavesOthers : Option (List ℕ) → ℕ → Option SessionEnd → Option (List ℕ) → Type 0
 LeavesOthers stream taken end left =
     (left ≡ left_of stream taken) ⊎ ((left ≡ left_of stream (taken + 1)) × IsCut end)
+
+-- What a power cut leaves, at each moment of a run, keeps the files: the six sentences of `KeepsFiles` hold,
+-- where the tree had the shape of one at the opening, with nothing pending.
+abbrev pub IsKeepingRun : CallLog → CallLog → List Entry → Type 0
+IsKeepingRun opening now newest = IsTree (current opening) → all_settled opening.changes ≡ true
+    → KeepsAll opening now newest
 
 -- What a crash leaves, at each moment of a run, is safe, where the tree had the shape of one at the
 -- opening, with nothing pending: as of the entries that stand, or with the one that is under way.

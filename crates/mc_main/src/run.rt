@@ -11,7 +11,8 @@ ghost use Rattle.mc_main.specs.Beginnings.{asked_in, printed_for, surroundings_i
 ghost use Rattle.mc_main.specs.Beginnings.{start_in, status_with, text_of};
 ghost use Rattle.mc_main.specs.Headline.{IsStatusOr, MayRefuseStart, RefusesStart, IsRun, ReadsKeys};
 ghost use Rattle.mc_main.specs.Headline.{TookAll, IsSafeRun, IsFinishedRun, IsOutcomeRun, IsAnsweredRun};
-ghost use Rattle.mc_main.specs.Headline.{IsCalmedRun, IsReplayedRun, ShowsRun, IsComplete, IsWholeRun};
+ghost use Rattle.mc_main.specs.Headline.{IsCalmedRun, IsKeepingRun, IsReplayedRun, ShowsRun, IsComplete};
+ghost use Rattle.mc_main.specs.Headline.{IsWholeRun};
 ghost use Rattle.mc_main.specs.Printed.{PrintsStart};
 
 use crate::endings::{refuse, refuse_start, run_desk, without_session};
@@ -65,6 +66,14 @@ pub fn mc_run<N: Tag, T: Tree, K: Source, S: Sink, P: Spawner, C: Clock, G: Gate
     requires source { N.source_faults ≡ K.fault_count keys.old }
     requires sink { N.sink_faults ≡ S.fault_count screen }
     requires spawner { P.fault_count spawner ≡ N.spawner_faults }
+
+    // Whenever the power is cut, inside a call too: what is copied is as it was; where something stood at a
+    // target stands that, or the new thing, whole, and where nothing stood nothing, or the new thing, whole;
+    // what is moved is whole at its source, or at its target, with all that lay in it; what is deleted is
+    // whole, or gone; and all else is as it was. Excepted are part files, and what wasn't on the disk yet
+    // when the job took its source up.
+    ensures keeps { IfKnown (T.contents tree) (λ opening. IfKnown (T.contents result.tree) (λ now.
+        IsKeepingRun opening now (reverse result.history.entries))) }
 
     // At each moment, inside a call too, each path holds after a crash what the history says, or what it
     // held before its last change as long as that isn't on the disk: a copied source is unchanged, a target

@@ -55,11 +55,11 @@ taken_up [] = None
 taken_up (e ∷ older) = taken_by e.what
 
 -- these entries are the first ones with more on top, by which no such source was taken up
-abbrev pub IsLeftSince : List Entry → (ItemOfJob → Bool) → List Entry → Type 0
-IsLeftSince first is_such [] = first ≡ []
-IsLeftSince first is_such (e ∷ entries) =
+abbrev pub IsUntakenSince : List Entry → (ItemOfJob → Bool) → List Entry → Type 0
+IsUntakenSince first is_such [] = first ≡ []
+IsUntakenSince first is_such (e ∷ entries) =
     (first ≡ e ∷ entries)
-    ⊎ ((option_map_or is_such (taken_by e.what) false ≡ false) × IsLeftSince first is_such entries)
+    ⊎ ((option_map_or is_such (taken_by e.what) false ≡ false) × IsUntakenSince first is_such entries)
 
 -- one of these entries took the path for a part file, or for where one came to
 abbrev pub WasPart : List Entry → Route → Type 0
