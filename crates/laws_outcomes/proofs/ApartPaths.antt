@@ -21,6 +21,13 @@ use Rattle.laws_sessions.proofs.Renamings.{IsRenaming, renaming_passes}
 abbrev pub AreApart : Pair → Type 0
 AreApart pair = (rest more : Route) → rest ++ pair.source ≡ more ++ pair.target → ⊥
 
+-- What is renamed lies apart from where it goes, stands, and goes onto no folder.
+pub record GoesTo (log : CallLog) (pair : Pair) : Type 0 where
+  pub apart : AreApart pair
+  pub node_there : ℕ
+  pub leads : find (current log) pair.source ≡ Some node_there
+  pub bare : (j : ℕ) → find (current log) pair.target ≡ Some j → is_folder (node (current log) j) ≡ false
+
 -- a thing that may be moved was renamed
 module _ (log : CallLog) (tree : IsTree (current log)) (replies : Replies) (old : List ℕ) (from : Route) (new : List ℕ) (to : Route) (other : same_path (old ∷ from) (new ∷ to) ≡ false)
     (may : MayMove (current log) (record { source = old ∷ from; target = new ∷ to }) replies) (passes : refusal_of (current log) (Rename (old ∷ from) (new ∷ to)) ≡ None) where
@@ -54,16 +61,27 @@ module _ (log : CallLog) (tree : IsTree (current log)) (replies : Replies) (old 
   renamed_apart : AreApart (record { source = old ∷ from; target = new ∷ to })
   renamed_apart = apart log old from new to (found_node (current log) from) (found_node (current log) to) (found_node (current log) (old ∷ from)) None moves_thing
 
+  renamed_goes : GoesTo log (record { source = old ∷ from; target = new ∷ to })
+  renamed_goes = record {
+    apart = renamed_apart;
+    node_there = found_node (current log) (old ∷ from);
+    leads = renaming.leads;
+    bare = λ j at. elim free [
+      | inl single ↦ renaming.bare single j at
+      | inr none ↦ absurd (let f : ⊥ = (let e : None ≡ Some j = sym none ∙ at in cc) in f)
+    ];
+  }
+
 -- the pair of these two paths
 abbrev pair_of : Route → Route → Pair
 pair_of source target = record { source = source; target = target }
 
 -- so it is of each pair
 module _ (log : CallLog) (tree : IsTree (current log)) (replies : Replies) where
-  abbrev pub GoesApart : Pair → Type 0
-  GoesApart pair = same_path pair.source pair.target ≡ false → MayMove (current log) pair replies → refusal_of (current log) (Rename pair.source pair.target) ≡ None → AreApart pair
+  abbrev pub GoesSo : Pair → Type 0
+  GoesSo pair = same_path pair.source pair.target ≡ false → MayMove (current log) pair replies → refusal_of (current log) (Rename pair.source pair.target) ≡ None → GoesTo log pair
 
-  pub named_apart : (pair : Pair) → HasName pair.source → HasName pair.target → GoesApart pair
-  named_apart pair source target =
-      subst GoesApart (sym (ap (λ s. pair_of s pair.target) source.is ∙ ap (λ t. pair_of (source.name ∷ folder_of pair.source) t) target.is))
-      (λ other may passes. renamed_apart log tree replies source.name (folder_of pair.source) target.name (folder_of pair.target) other may passes)
+  pub named_goes : (pair : Pair) → HasName pair.source → HasName pair.target → GoesSo pair
+  named_goes pair source target =
+      subst GoesSo (sym (ap (λ s. pair_of s pair.target) source.is ∙ ap (λ t. pair_of (source.name ∷ folder_of pair.source) t) target.is))
+      (λ other may passes. renamed_goes log tree replies source.name (folder_of pair.source) target.name (folder_of pair.target) other may passes)

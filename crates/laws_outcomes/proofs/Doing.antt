@@ -43,7 +43,7 @@ use Rattle.laws_sessions.proofs.Knowing.{IsKept, HistoryFacts}
 use Rattle.laws_sessions.proofs.Sources.{item_in, making_item}
 use Rattle.laws_sessions.proofs.Turns.{Turned}
 use Rattle.laws_outcomes.specs.Outcomes.{kept_of, passed_by, passed_in}
-use Rattle.laws_outcomes.proofs.ApartPaths.{AreApart, named_apart}
+use Rattle.laws_outcomes.proofs.ApartPaths.{GoesTo, named_goes}
 use Rattle.laws_outcomes.proofs.CopyOutcome.{TreeAccounts, tree_begins, tree_passed, tree_steps, tree_taken}
 use Rattle.laws_outcomes.proofs.MadeThings.{MakingDone, SettingDone, Unless, making_skips, making_steps, setting_skips, setting_steps, unless_of}
 use Rattle.laws_outcomes.proofs.MovedThings.{MovingDone, moving_begins, moving_skips, moving_steps}
@@ -178,7 +178,7 @@ module _ (told : HistoryFacts) (dirty dirty_after : List Route) (marks : Marks) 
   Then passed did old new = Unless did (WorkDone (passed_in (Some (item_in old)) did passed) begun (replayed_step now did (Some (item_in old)) told.tree) (current now) new)
 
   -- where a mode is set something stands
-  stands : (s : Setting) (did : Did) → WorkKnows told dirty marks log GoesOn (SetMode s) → SettingCalls s did log (Some now) → (path : Route) → did ≡ Set path → (x : Value) × ((told.tree s.path).value ≡ Some x)
+  pub stands : (s : Setting) (did : Did) → WorkKnows told dirty marks log GoesOn (SetMode s) → SettingCalls s did log (Some now) → (path : Route) → did ≡ Set path → (x : Value) × ((told.tree s.path).value ≡ Some x)
   stands s did (name, none) called path is =
       let done : AllDone log (Sets_mode s.path s.mode ∷ []) (Some now) = subst (λ (x : Did). SettingCalls s x log (Some now)) is called in
       let d = one_done log (Sets_mode s.path s.mode) now done in (
@@ -187,12 +187,12 @@ module _ (told : HistoryFacts) (dirty dirty_after : List Route) (marks : Marks) 
             ∙ ap (option_map (λ k. value (node (current log) k))) (mode_finds (current log) s.path s.mode d.permits),
       )
 
-  -- what is moved lies apart from where it goes
-  goes_apart : (replies : Replies) (m : Moving) (did : Did) → WorkKnows told dirty marks log GoesOn (Move m) → MovingCalls replies m did log (Some now) → (pair : Pair) → did ≡ Moved pair → AreApart m.pair
-  goes_apart replies m did knows called pair is =
+  -- what is moved stands, lies apart from where it goes, and goes onto no folder
+  pub goes_to : (replies : Replies) (m : Moving) (did : Did) → WorkKnows told dirty marks log GoesOn (Move m) → MovingCalls replies m did log (Some now) → (pair : Pair) → did ≡ Moved pair → GoesTo log m.pair
+  goes_to replies m did knows called pair is =
       let renamed = subst (λ (x : Did). MovingCalls replies m x log (Some now)) is called in
       let d = done_call log (Rename m.pair.source m.pair.target) now renamed.1 in
-      named_apart log kept.known.guarded.tree replies m.pair knows.source knows.target knows.other renamed.0 d.permits
+      named_goes log kept.known.guarded.tree replies m.pair knows.source knows.target knows.other renamed.0 d.permits
 
   work_steps : (replies : Replies) (old new : Work) (did : Did) (calls faults faults_after : ℕ) (passed : List Route) → WorkKnows told dirty marks log GoesOn old → WorkTells replies old did new → WorkCalls IsUnclaimed replies old did new log (Some now)
       → Walks IsUnclaimed replies old new did calls dirty dirty_after (Some log) (Some now) faults faults_after → WorkDone passed begun told.tree (current log) old → Then passed did old new
@@ -204,7 +204,7 @@ module _ (told : HistoryFacts) (dirty dirty_after : List Route) (marks : Marks) 
   work_steps replies (Make m) (Make new) did calls faults faults_after passed knows t called walks k =
       subst (λ p. Unless did (MakingDone p (replayed_step now did (Some (item_in (Make m))) told.tree) new)) (sym (in_plain (item_in (Make m)) did passed (makes_plain m.thing m.path passed))) (making_steps m new did now passed told.tree t k)
   work_steps replies (Move m) (Move new) did calls faults faults_after passed knows t called walks k =
-      moving_steps replies m new did now passed begun told.tree (goes_apart replies m did knows called) t k
+      moving_steps replies m new did now passed begun told.tree (λ pair is. let g = goes_to replies m did knows called pair is in g.apart) t k
   work_steps replies (SetMode s) (SetMode new) did calls faults faults_after passed knows t called walks k =
       subst (λ p. Unless did (SettingDone p (replayed_step now did (Some (item_in (SetMode s))) told.tree) new)) (sym (in_plain (item_in (SetMode s)) did passed refl)) (setting_steps replies s new did now passed told.tree t (stands s did knows called) k)
   work_steps replies (Copy c) (Delete new) did calls faults faults_after passed knows t called walks k = absurd t

@@ -42,7 +42,7 @@ use Rattle.laws_sessions.proofs.Stepped.{more}
 use Rattle.laws_sessions.proofs.Turns.{Turned, one_turned, turned_id, turned_to}
 use Rattle.laws_outcomes.specs.Begun.{begun_after, tree_begun}
 use Rattle.laws_outcomes.specs.Outcomes.{Finishes, passed_over}
-use Rattle.laws_outcomes.specs.Untouched.{touches}
+use Rattle.laws_outcomes.specs.Touched.{touches}
 use Rattle.laws_outcomes.specs.OutcomeLaws.{UntouchedLaw}
 use Rattle.laws_outcomes.proofs.BegunTrees.{begun_more}
 use Rattle.laws_outcomes.proofs.Doing.{JobDone, JobsDone}

@@ -7,6 +7,14 @@ pub mod BegunTrees
 pub mod ChangedPaths
 pub mod CopyOutcome
 pub mod CopyTouches
+pub mod CutCopies
+pub mod CutEntries
+pub mod CutKeeps
+pub mod CutLive
+pub mod CutMoments
+pub mod CutMoves
+pub mod CutSteps
+pub mod CutValues
 pub mod Deciding
 pub mod Deletions
 pub mod Doing
@@ -14,6 +22,7 @@ pub mod Elsewhere
 pub mod EmptiedAnswers
 pub mod ExampleSteps
 pub mod FileWork
+pub mod KeepsExample
 pub mod KeptExample
 pub mod KeptSessions
 pub mod KeptTargets

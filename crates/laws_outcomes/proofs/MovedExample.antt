@@ -29,35 +29,35 @@ use Rattle.laws_sessions.proofs.FolderExampleSteps.{first, log, small_tree, top}
 use Rattle.laws_outcomes.proofs.Outcome.{outcome_law}
 
 -- the file comes to this name beside the folder in which it is
-abbrev target : Route
+abbrev pub target : Route
 target = (3 ∷ []) ∷ []
 
-abbrev pair : Pair
+abbrev pub pair : Pair
 pair = record { source = first; target = target }
 
-abbrev root : Route
+abbrev pub root : Route
 root = []
 
-abbrev at : MovingStage → Moving
+abbrev pub at : MovingStage → Moving
 at stage = record { pair = pair; stage = stage }
 
-abbrev job : MovingStage → Running
+abbrev pub job : MovingStage → Running
 job stage = record { id = 1; work = Move (at stage); course = GoesOn; replies = no_replies }
 
-abbrev renamed : Change
+abbrev pub renamed : Change
 renamed = Moves 1 (1 ∷ []) 0 (3 ∷ []) 2 None
 
-abbrev begun_entries : List Entry
+abbrev pub begun_entries : List Entry
 begun_entries = entry 0 (Began 1 (plan.Move (pair ∷ [])) false) ∷ []
 
 begun_traced : IsTraced (log []) begun_entries (stand (job Take ∷ []) []) (log [])
 begun_traced = (nothing_live, log [], (refl, refl), record { after = stand (job Take ∷ []) []; leads = record { none_live = refl; after_is = refl; now_is = refl }; stand_is = refl; counts = refl })
 
 -- the file is renamed, and both folders are dirty
-abbrev moved_entries : List Entry
+abbrev pub moved_entries : List Entry
 moved_entries = entry 1 (Step 1 (Moved pair)) ∷ begun_entries
 
-abbrev moved_log : CallLog
+abbrev pub moved_log : CallLog
 moved_log = log (renamed ∷ [])
 
 abbrev meta : Meta
@@ -82,10 +82,10 @@ moved_traced =
     }) refl refl refl
 
 -- the target's folder is synced, and then the one in which the file was
-abbrev target_entries : List Entry
+abbrev pub target_entries : List Entry
 target_entries = entry 2 (Step 1 Barrier) ∷ moved_entries
 
-abbrev target_log : CallLog
+abbrev pub target_log : CallLog
 target_log = log (renamed ∷ Syncs 0 ∷ [])
 
 target_traced : IsTraced (log []) target_entries (stand (job SyncSource ∷ []) (top ∷ [])) target_log
@@ -100,13 +100,13 @@ target_traced =
       walks = (1, 0, 0, tt);
     }) refl refl refl
 
-abbrev done_entries : List Entry
+abbrev pub done_entries : List Entry
 done_entries = entry 3 (Step 1 Barrier) ∷ target_entries
 
-abbrev done_log : CallLog
+abbrev pub done_log : CallLog
 done_log = log (renamed ∷ Syncs 0 ∷ Syncs 1 ∷ [])
 
-done_traced : IsTraced (log []) done_entries (stand (job Finish ∷ []) []) done_log
+pub done_traced : IsTraced (log []) done_entries (stand (job Finish ∷ []) []) done_log
 done_traced =
     own_step (log []) 1 3 Barrier target_entries (stand (job SyncSource ∷ []) (top ∷ [])) (stand (job Finish ∷ []) []) target_log done_log (job SyncSource) (job Finish) target_traced (inl (refl, refl))
     (record {

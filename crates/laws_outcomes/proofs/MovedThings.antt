@@ -20,7 +20,7 @@ use Rattle.laws_sessions.specs.Replayed.{moved_by, nothing_there, replayed_step}
 use Rattle.laws_sessions.proofs.Moved.{moved_below}
 use Rattle.laws_sessions.proofs.PathsBelow.{below_way, is_below}
 use Rattle.laws_outcomes.specs.Outcomes.{IsMoved, passed_in}
-use Rattle.laws_outcomes.specs.Untouched.{touches}
+use Rattle.laws_outcomes.specs.Touched.{touches}
 use Rattle.laws_outcomes.proofs.ApartPaths.{AreApart}
 use Rattle.laws_outcomes.proofs.ChangedPaths.{IsChanged}
 use Rattle.laws_outcomes.proofs.MadeThings.{Unless}

@@ -53,24 +53,24 @@ use Rattle.laws_outcomes.specs.Answered.{IsQuestionOf, replies_said}
 use Rattle.laws_outcomes.proofs.AnswersLaw.{answered_law}
 use Rattle.laws_outcomes.proofs.Outcome.{outcome_law}
 
-abbrev said_yes : Replies
+abbrev pub said_yes : Replies
 said_yes = with_reply Yes no_replies
 
 -- the job is answered `Yes`
-abbrev yes_entries : List Entry
+abbrev pub yes_entries : List Entry
 yes_entries = entry 0 (Order 1 (Answered Yes)) ∷ asked_entries
 
-abbrev told_yes : Running
+abbrev pub told_yes : Running
 told_yes = job said_yes GoesOn begun
 
 yes_traced : IsTraced (log []) yes_entries (stand (told_yes ∷ []) []) (log [])
 yes_traced = (stand (asks ∷ []) [], log [], asked_traced, record { after = stand (told_yes ∷ []) []; leads = record { after_is = refl; now_is = refl }; stand_is = refl; counts = refl })
 
 -- the copy of the file, and its part, which is made where nothing stands
-abbrev ours : Places
+abbrev pub ours : Places
 ours = places 1 source target
 
-abbrev part : Route
+abbrev pub part : Route
 part = part_path ours 0
 
 abbrev facts : SourceFacts
@@ -128,7 +128,7 @@ makes = Makes 2 (part_name 1 0) part_file
 abbrev made_log : CallLog
 made_log = log (makes ∷ [])
 
-abbrev made_entries : List Entry
+abbrev pub made_entries : List Entry
 made_entries = entry 1 (Step 1 (Began part)) ∷ yes_entries
 
 made_step : IsStep said_yes begun fills (Began part) 1 [] (holder ∷ []) (log []) made_log
@@ -190,7 +190,7 @@ writes = Writes 5 (7 ∷ []) (pos 0)
 abbrev filled_log : CallLog
 filled_log = log (makes ∷ writes ∷ [])
 
-abbrev filled_entries : List Entry
+abbrev pub filled_entries : List Entry
 filled_entries = entry 2 (Step 1 (Chunk 1)) ∷ made_entries
 
 filled_step : IsStep said_yes fills is_full (Chunk 1) 1 (holder ∷ []) (holder ∷ []) made_log filled_log
@@ -245,7 +245,7 @@ moves = Moves 2 (part_name 1 0) 2 (120 ∷ []) 5 (Some 4)
 abbrev placed_log : CallLog
 placed_log = log (makes ∷ writes ∷ Syncs 5 ∷ moves ∷ [])
 
-abbrev placed_entries : List Entry
+abbrev pub placed_entries : List Entry
 placed_entries = entry 4 (Step 1 (Placed target)) ∷ filled_entries
 
 placed_step : IsStep said_yes is_full is_placed (Placed target) 2 (holder ∷ []) (holder ∷ []) filled_log placed_log
@@ -291,10 +291,10 @@ placed_traced =
     placed_leads refl refl refl
 
 -- the folder is synced, and the job is finished
-abbrev done_log : CallLog
+abbrev pub done_log : CallLog
 done_log = log (makes ∷ writes ∷ Syncs 5 ∷ moves ∷ Syncs 2 ∷ [])
 
-abbrev done_entries : List Entry
+abbrev pub done_entries : List Entry
 done_entries = entry 5 (Step 1 Barrier) ∷ placed_entries
 
 done_step : IsStep said_yes is_placed is_done Barrier 1 (holder ∷ []) [] placed_log done_log
@@ -348,7 +348,7 @@ done_traced =
     own_step (log []) 1 5 Barrier placed_entries (stand (job said_yes GoesOn is_placed ∷ []) (holder ∷ [])) (stand (job said_yes GoesOn is_done ∷ []) []) placed_log done_log (job said_yes GoesOn is_placed) (job said_yes GoesOn is_done) placed_traced (inl (refl, refl))
     done_leads refl refl refl
 
-abbrev end : Entry
+abbrev pub end : Entry
 end = entry 5 (Step 1 (Ended Finished None))
 
 ended_step : IsStep said_yes is_done (at_last is_done) (Ended Finished None) 0 [] [] done_log done_log
@@ -379,7 +379,7 @@ ended_leads =
     (tells_own said_yes is_done (at_last is_done) (Ended Finished None) tt refl (record { top = refl; part = refl; stage = refl }) (λ fresh. absurd (false≢true fresh))
     (λ before. (record { none = refl; around = refl; names = refl; owes = refl; clean = refl }, refl))) refl ended_step (λ fresh. absurd (false≢true fresh)) (stays is_done (Ended Finished None) [] refl)
 
-ended_traced : IsTraced (log []) (end ∷ done_entries) (stand [] []) done_log
+pub ended_traced : IsTraced (log []) (end ∷ done_entries) (stand [] []) done_log
 ended_traced =
     own_step (log []) 1 5 (Ended Finished None) done_entries (stand (job said_yes GoesOn is_done ∷ []) []) (stand [] []) done_log done_log (job said_yes GoesOn is_done) (job said_yes GoesOn (at_last is_done)) done_traced (inl (refl, refl)) ended_leads refl refl refl
 

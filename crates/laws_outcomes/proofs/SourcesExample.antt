@@ -19,7 +19,7 @@ use Rattle.laws_sessions.proofs.Example.{another, log, small_tree, the_file}
 use Rattle.laws_sessions.proofs.ExampleParts.{entry, own_step, stand}
 use Rattle.laws_sessions.proofs.ModeExample.{given, gives, mode, synced_entries, turn, turned_entries, turned_traced}
 use Rattle.laws_outcomes.specs.AllSources.{IsLeftSince, concerns}
-use Rattle.laws_outcomes.specs.Untouched.{touches}
+use Rattle.laws_outcomes.specs.Touched.{touches}
 use Rattle.laws_outcomes.proofs.Together.{all_sources_law}
 
 -- the other file is given the mode, too, and synced, and the job is finished

@@ -24,7 +24,7 @@ use Rattle.laws_outcomes.specs.AllSources.{GoesOn, IsLeftSince, concerns, is_els
 use Rattle.laws_outcomes.specs.OutcomeLaws.{AllSourcesLaw}
 use Rattle.laws_outcomes.specs.Begun.{begun_after, tree_begun}
 use Rattle.laws_outcomes.specs.Outcomes.{IsOutcome, as_copied}
-use Rattle.laws_outcomes.specs.Untouched.{touches}
+use Rattle.laws_outcomes.specs.Touched.{touches}
 use Rattle.laws_outcomes.proofs.Elsewhere.{untouched_law}
 use Rattle.laws_outcomes.proofs.Outcome.{outcome_law}
 

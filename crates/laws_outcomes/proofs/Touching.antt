@@ -35,7 +35,7 @@ use Rattle.laws_sessions.specs.Traces.{IsUnclaimed, before_others, ordered_job, 
 use Rattle.laws_sessions.proofs.Deleted.{put_off}
 use Rattle.laws_sessions.proofs.MovedPaths.{moved_off}
 use Rattle.laws_sessions.proofs.Sources.{IsSame, answer_same, item_in, making_item}
-use Rattle.laws_outcomes.specs.Untouched.{touches}
+use Rattle.laws_outcomes.specs.Touched.{touches}
 use Rattle.laws_outcomes.proofs.ChangedPaths.{IsChanged}
 use Rattle.laws_outcomes.proofs.CopyTouches.{tree_touches}
 use Rattle.laws_outcomes.proofs.Doing.{CourseDone, WorkDone}
@@ -129,7 +129,7 @@ set_off None path v p off = refl
 apart : (item : ItemOfJob) (path p : Route) → touches item path ≡ true → touches item p ≡ false → same_path p path ≡ false
 apart item path p on off = false_from_ne_true _ (λ same. both_ways _ off (subst (λ q. touches item q ≡ true) (sym (same_path-true p path same)) on))
 
-step_else : (did : Did) (log : CallLog) (item : ItemOfJob) (v : View) → ((path : Route) → IsChanged did path → touches item path ≡ true) → Unless did (IsAsBegun (replayed_step log did (Some item) v) v item)
+pub step_else : (did : Did) (log : CallLog) (item : ItemOfJob) (v : View) → ((path : Route) → IsChanged did path → touches item path ≡ true) → Unless did (IsAsBegun (replayed_step log did (Some item) v) v item)
 step_else (Removed path) log item v on = λ p off. put_off v path None p (apart item path p (on path (inl refl)) off)
 step_else (Placed path) log item v on = λ p off. placed_off (Some item) path v p (apart item path p (on path (inl refl)) off)
 step_else (Made path) log item v on = λ p off. put_off v path (Some (made_by (Some item) path v)) p (apart item path p (on path (inl refl)) off)

@@ -30,7 +30,7 @@ use Rattle.laws_outcomes.proofs.TreeFolders.{comes_from, folder_copied, on_targe
 use Rattle.laws_outcomes.proofs.TreeLevels.{IsChanged, accounted_map, copy_changed, opened_inner, pending_or, same_rest, source_of}
 
 -- the folder that is worked was made before
-not_made : (v : View) (top : Pair) (inner : Level) (around : List Level) → AreMoved top inner around → AreOpened v top.target inner around → (mode : ℕ) → inner.copy.stage ≡ at.Make mode → ⊥
+pub not_made : (v : View) (top : Pair) (inner : Level) (around : List Level) → AreMoved top inner around → AreOpened v top.target inner around → (mode : ℕ) → inner.copy.stage ≡ at.Make mode → ⊥
 not_made v top inner [] moved h mode is = (let e : Some mode ≡ None = sym (ap owed_of is) ∙ moved.keeps in let f : ⊥ = cc in f)
 not_made v top inner (outer ∷ around) moved h mode is = (let o : IsOpened v top.target inner = h.0 in o.made mode is)
 

@@ -18,7 +18,7 @@ use Rattle.session_entries.specs.LiveJobs.{live_item, live_jobs}
 use Rattle.laws_sessions.specs.Replayed.{replayed_tree}
 use Rattle.laws_outcomes.specs.Begun.{tree_begun}
 use Rattle.laws_outcomes.specs.Outcomes.{Finishes, IsOutcome, passed_over}
-use Rattle.laws_outcomes.specs.Untouched.{touches}
+use Rattle.laws_outcomes.specs.Touched.{touches}
 
 -- what is copied stands here
 abbrev pub is_copied : ItemOfJob → Route → Bool

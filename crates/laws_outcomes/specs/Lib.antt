@@ -1,7 +1,11 @@
 pub mod AllSources
 pub mod Answered
+pub mod Arrivals
 pub mod Begun
 pub mod Keeps
+pub mod KeepsFiles
 pub mod Outcomes
 pub mod OutcomeLaws
+pub mod PowerCut
 pub mod Untouched
+pub mod Touched

@@ -11,6 +11,7 @@ use Rattle.laws_outcomes.specs.Untouched.{LeavesAlone}
 use Rattle.laws_outcomes.specs.Keeps.{LeavesKept}
 use Rattle.laws_outcomes.specs.AllSources.{LeavesAll}
 use Rattle.laws_outcomes.specs.Answered.{FollowsAnswers}
+use Rattle.laws_outcomes.specs.PowerCut.{KeepsAll}
 
 abbrev pub OutcomeLaw : Type 0
 OutcomeLaw = (opening now : CallLog) (newest : List Entry) (stand : Stand)
@@ -36,3 +37,8 @@ abbrev pub AnsweredLaw : Type 0
 AnsweredLaw = (opening now : CallLog) (newest : List Entry) (stand : Stand)
     → IsTree (current opening) → all_settled opening.changes ≡ true → IsTraced opening newest stand now
     → FollowsAnswers opening now newest
+
+abbrev pub KeepsLaw : Type 0
+KeepsLaw = (opening now : CallLog) (newest : List Entry) (stand : Stand)
+    → IsTree (current opening) → all_settled opening.changes ≡ true → IsTraced opening newest stand now
+    → KeepsAll opening now newest

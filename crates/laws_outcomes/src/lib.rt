@@ -2,7 +2,7 @@
 //! are laws of the definitions in `specs/`.
 #![tactic(auto)]
 
-ghost use Rattle.laws_outcomes.specs.OutcomeLaws.{AllSourcesLaw, AnsweredLaw};
+ghost use Rattle.laws_outcomes.specs.OutcomeLaws.{AllSourcesLaw, AnsweredLaw, KeepsLaw};
 ghost use Rattle.laws_outcomes.specs.OutcomeLaws.{KeptLaw, OutcomeLaw, UntouchedLaw};
 
 /// Where a job is done with one of its sources, all that it was to do with it is done, but for what it
@@ -24,4 +24,11 @@ pub fn what_a_finished_job_left_alone()
 /// only where something does.
 pub fn what_was_answered_decides()
     ensures { AnsweredLaw }
+{}
+
+/// What a power cut leaves of a session, at each moment, inside a call too: what is copied is as it was; a
+/// target has what stood there, or the new thing, whole; what is moved is whole at its source or at its
+/// target; what is deleted is whole or gone; and all else is as it was.
+pub fn what_a_power_cut_leaves()
+    ensures { KeepsLaw }
 {}

@@ -23,25 +23,25 @@ use Rattle.laws_sessions.proofs.ExampleParts.{entry, own_step, stand}
 use Rattle.laws_sessions.proofs.CopyExampleSteps.{begins, brings_in, brought_in, decided, finishes, given, given_log, gives, has_made, job, log, made, made_log, makes, pair, shut, small, small_tree, source, stands_log, synced, synced_log, syncs, target, works}
 
 -- The history.
-abbrev begun_entries : List Entry
+abbrev pub begun_entries : List Entry
 begun_entries = entry 0 (Began 1 (plan.Copy (pair ∷ [])) false) ∷ []
 
-abbrev made_entries : List Entry
+abbrev pub made_entries : List Entry
 made_entries = entry 1 (Step 1 (Made target)) ∷ begun_entries
 
-abbrev stands_entries : List Entry
+abbrev pub stands_entries : List Entry
 stands_entries = entry 2 (Step 1 Barrier) ∷ made_entries
 
-abbrev given_entries : List Entry
+abbrev pub given_entries : List Entry
 given_entries = entry 3 (Step 1 (Set target)) ∷ stands_entries
 
-abbrev synced_entries : List Entry
+abbrev pub synced_entries : List Entry
 synced_entries = entry 4 (Step 1 Barrier) ∷ given_entries
 
-abbrev end : Entry
+abbrev pub end : Entry
 end = entry 4 (Step 1 (Ended Finished None))
 
-abbrev finished_entries : List Entry
+abbrev pub finished_entries : List Entry
 finished_entries = end ∷ synced_entries
 
 begun_traced : IsTraced (log []) begun_entries (stand (job begins ∷ []) []) (log [])
@@ -115,7 +115,7 @@ synced_traced =
       over = λ over. absurd (let e = over.around in let f : ⊥ = cc in f);
     }) syncs (λ fresh. absurd (false≢true fresh)) (record { folder = target; own = refl; was = true; now = false; list = refl; synced = λ was now. refl })) refl refl refl
 
-finished_traced : IsTraced (log []) finished_entries (stand [] []) synced_log
+pub finished_traced : IsTraced (log []) finished_entries (stand [] []) synced_log
 finished_traced =
     own_step (log []) 1 4 (Ended Finished None) synced_entries (stand (job synced ∷ []) []) (stand [] []) synced_log synced_log (job synced) (job decided) synced_traced (inl (refl, refl))
     (works synced decided (Ended Finished None) 0 [] [] synced_log synced_log

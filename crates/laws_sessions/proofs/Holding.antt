@@ -25,7 +25,8 @@ use Rattle.copy_move.specs.declared.work.Work.{Work}
 use Rattle.copy_move.specs.Jobs.{Running}
 use Rattle.laws_sessions.specs.Doubt.{is_unsettled, node_waits, way_waits}
 use Rattle.laws_sessions.specs.Replayed.{log_prefix, replayed_tree}
-use Rattle.laws_sessions.specs.Traces.{EventLeads, IsTraced, Stand, if_closed}
+use Rattle.laws_sessions.specs.Safe.{IsSafe}
+use Rattle.laws_sessions.specs.Traces.{EventLeads, Follows, IsTraced, Stand, if_closed}
 use Rattle.laws_sessions.proofs.Calming.{still_listed}
 use Rattle.laws_sessions.proofs.Deleted.{put_at, put_off}
 use Rattle.laws_sessions.proofs.Tidy.{not_listed}
@@ -34,7 +35,7 @@ use Rattle.laws_sessions.proofs.Histories.{IsReached, enters, traced_reached}
 use Rattle.laws_sessions.proofs.JobKnows.{WorkKnows, work_said}
 use Rattle.laws_sessions.proofs.Knowing.{HasMode, HasNoMode, IsKept, HistoryFacts, held, safe_path, waits_there}
 use Rattle.laws_sessions.proofs.Moments.{log_of, prefix_cut, prefix_is, traced_count}
-use Rattle.laws_sessions.proofs.Prefixes.{replayed_more, told_of}
+use Rattle.laws_sessions.proofs.Prefixes.{replayed_more, told_more, told_of}
 use Rattle.laws_sessions.proofs.Reports.{HasLive, JobsKnow}
 use Rattle.laws_sessions.proofs.Staying.{since_longer}
 use Rattle.laws_sessions.proofs.Stepped.{AreMids, cut, mid_at, more}
@@ -282,6 +283,48 @@ module _ (opening : CallLog) (tree : IsTree (current opening)) (settled : all_se
         let n = enters opening g e.calls was before (traced_reached opening tree settled g was before traced) e.what f.after now f.leads f.counts in
         holds_moment g standing coming was before (n.made ++ rest) traced (earlier before now n.made rest n.now_is end_is) before_that since later
 
+    -- where an entry ends, all is safe as of it
+    safe_end : (g : List Entry) (stand : Stand) (now : CallLog) (rest : List Change) → IsReached opening g stand now → end ≡ more now rest → log_prefix opening calls end ≡ now → IsSafe opening end g (log_prefix opening calls end) image
+    safe_end g stand now rest r end_is at p apart =
+        safe_path (told_of opening end g r.part) stand.dirty r.marks (log_prefix opening calls end) kept image left p (λ named stays. apart (record { named = named; stays = stays }))
+      where
+        kept : IsKept (told_of opening end g r.part) stand.dirty r.marks (log_prefix opening calls end)
+        kept =
+            subst (λ (l : CallLog). IsKept (told_of opening end g r.part) stand.dirty r.marks l) (sym at)
+            (subst (λ t. IsKept t stand.dirty r.marks now) (sym (ap (λ (l : CallLog). told_of opening l g r.part) end_is ∙ told_more opening now rest g r.part r.within)) r.kept)
+
+    -- within one, before which none named the path, it holds what it held, or all is safe as of that entry
+    comes_within : (e : Entry) (g : List Entry) (was : Stand) (before : CallLog) (stand : Stand) (now : CallLog) (rest : List Change) (h : IsHeld (live_jobs g) was before path v) → IsTraced opening g was before
+        → Follows opening e g was before stand now → end ≡ more now rest → length before.changes ≤ length opening.changes + calls → length opening.changes + calls ≤ length now.changes
+        → Holds ⊎ IsSafe opening end (e ∷ g) (log_prefix opening calls end) image
+    comes_within e g was before stand now rest h traced f end_is least most =
+        let n : Goes h.said (live_jobs g) was before h.marks h.kept h.knows h.live e.what f.after now = event_goes h.said (live_jobs g) was before h.marks h.kept h.knows h.live e.what f.after now f.leads in
+        let count : ℕ = length opening.changes + calls in
+        let at : log_prefix opening calls end ≡ cut (more before n.made) count = prefix_cut opening end calls now rest end_is most ∙ ap (λ (l : CallLog). cut l count) n.now_is in
+        elim (mid_at h.said n.made before count n.mids least (subst (λ (l : CallLog). count ≤ length l.changes) n.now_is most)) [
+          | inl whole ↦ inr (safe_end (e ∷ g) stand now rest (traced_reached opening tree settled (e ∷ g) stand now (was, before, traced, f)) end_is (at ∙ (whole ∙ sym n.now_is)))
+          | inr mid ↦ inl (held_image h.said mid.0 mid.1 (cut (more before n.made) count) path v image h.keeps mid.2 (subst (λ (l : CallLog). IsImage l image) at left))
+        ]
+
+    comes_moment : (newest standing coming : List Entry) (stand : Stand) (now : CallLog) (rest : List Change) → IsTraced opening newest stand now → end ≡ more now rest → IsMoment newest standing coming calls → IsUnnamedSince older path standing
+        → Holds ⊎ IsSafe opening end coming (log_prefix opening calls end) image
+    comes_moment [] standing coming stand now rest traced end_is (standing_is, coming_is, calls_is) since =
+        let n = traced_count opening now [] stand traced in
+        inl (holds_end [] stand now (held_since [] stand now rest traced end_is (subst (IsUnnamedSince older path) standing_is since)) (prefix_is opening end calls now rest end_is (omega (arith, n, calls_is))))
+    comes_moment (e ∷ g) standing coming stand now rest traced end_is (inl (standing_is, coming_is, calls_is)) since =
+        let n = traced_count opening now (e ∷ g) stand traced in
+        inl (holds_end (e ∷ g) stand now (held_since (e ∷ g) stand now rest traced end_is (subst (IsUnnamedSince older path) standing_is since)) (prefix_is opening end calls now rest end_is (omega (arith, n, calls_is))))
+    comes_moment (e ∷ g) standing coming stand now rest (was, before, traced, f) end_is (inr (inl (standing_is, coming_is, least, most))) since =
+        let n = enters opening g e.calls was before (traced_reached opening tree settled g was before traced) e.what f.after now f.leads f.counts in
+        let h = held_since g was before (n.made ++ rest) traced (earlier before now n.made rest n.now_is end_is) (subst (IsUnnamedSince older path) standing_is since) in
+        let b = traced_count opening before g was traced in
+        let c = f.counts in
+        subst (λ x. Holds ⊎ IsSafe opening end x (log_prefix opening calls end) image) (sym coming_is)
+        (comes_within e g was before stand now rest h traced f end_is (omega (arith, b, least)) (omega (arith, c, most)))
+    comes_moment (e ∷ g) standing coming stand now rest (was, before, traced, f) end_is (inr (inr before_that)) since =
+        let n = enters opening g e.calls was before (traced_reached opening tree settled g was before traced) e.what f.after now f.leads f.counts in
+        comes_moment g standing coming was before (n.made ++ rest) traced (earlier before now n.made rest n.now_is end_is) before_that since
+
 -- what is on the disk holds in each image at each later moment
 pub holds_since : (opening now : CallLog) (newest older standing coming : List Entry) (stand : Stand) (calls : ℕ) (path : Route) (image : FileSystem) → IsTree (current opening) → all_settled opening.changes ≡ true
     → IsTraced opening newest stand now → IsMoment newest standing coming calls → IsUnnamedSince older path standing → IsUnnamedSince older path coming → is_unsettled (log_prefix opening (calls_in older) now) path ≡ false
@@ -289,3 +332,11 @@ pub holds_since : (opening now : CallLog) (newest older standing coming : List E
     → value_at image path ≡ (replayed_tree opening now older path).value
 holds_since opening now newest older standing coming stand calls path image tree settled traced moment since later sure bare left =
     holds_moment opening tree settled now older path sure bare calls image left newest standing coming stand now [] traced (ap (log_of now) (sym (append-nil now.changes))) moment since later
+
+-- and where the entry under way names it, it holds that, or each path holds what the history says with that entry
+pub holds_or_comes : (opening now : CallLog) (newest older standing coming : List Entry) (stand : Stand) (calls : ℕ) (path : Route) (image : FileSystem) → IsTree (current opening) → all_settled opening.changes ≡ true
+    → IsTraced opening newest stand now → IsMoment newest standing coming calls → IsUnnamedSince older path standing → is_unsettled (log_prefix opening (calls_in older) now) path ≡ false
+    → (Among (named_parts older) path → ⊥) ⊎ (is_some (find (current (log_prefix opening (calls_in older) now)) path) ≡ false) → IsCrashImage now (length opening.changes + calls) image
+    → (value_at image path ≡ (replayed_tree opening now older path).value) ⊎ IsSafe opening now coming (log_prefix opening calls now) image
+holds_or_comes opening now newest older standing coming stand calls path image tree settled traced moment since sure bare left =
+    comes_moment opening tree settled now older path sure bare calls image left newest standing coming stand now [] traced (ap (log_of now) (sym (append-nil now.changes))) moment since

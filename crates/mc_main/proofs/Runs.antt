@@ -12,6 +12,7 @@ use Rattle.laws_sessions.proofs.Histories.{traced_reached}
 use Rattle.laws_sessions.proofs.Moments.{replay_law, session_law}
 use Rattle.laws_sessions.proofs.WholeMoments.{whole_law}
 use Rattle.laws_outcomes.proofs.AnswersLaw.{answered_law}
+use Rattle.laws_outcomes.proofs.CutKeeps.{keeps_law}
 use Rattle.laws_outcomes.proofs.Elsewhere.{untouched_law}
 use Rattle.laws_outcomes.proofs.KeptSessions.{kept_law}
 use Rattle.laws_outcomes.proofs.Outcome.{outcome_law}
@@ -25,7 +26,7 @@ use Rattle.mc_desk.proofs.Terminals.{since_is}
 use Rattle.mc_main.specs.declared.session.SessionEnd.{SessionEnd}
 use Rattle.mc_main.specs.declared.session.SessionEnd.TheVariants.{Quit, KeysEnded}
 use Rattle.mc_main.proofs.Starting.{can_read}
-use Rattle.mc_main.specs.Headline.{IsCalmedRun, IsFinishedRun, IsReplayedRun, IsSafeRun, IsWholeRun}
+use Rattle.mc_main.specs.Headline.{IsCalmedRun, IsFinishedRun, IsKeepingRun, IsReplayedRun, IsSafeRun, IsWholeRun}
 use Rattle.mc_main.specs.OutcomeRuns.{IsAnsweredRun, IsOutcomeRun}
 use Rattle.mc_main.specs.KeysRead.{IsCut, TookAll}
 use Rattle.mc_main.specs.SessionRuns.{ShowsRun, RanSession}
@@ -38,6 +39,12 @@ told_trace o contents newest opening now o_is is traced =
     let t = subst (λ x. IsTracedTo x contents newest) o_is traced in
     let same : t.0 ≡ now = let a = t.2 in let b = is in cc in
     (t.1, subst (λ l. IsTraced opening newest (at_rest t.1) l) same t.3)
+
+-- a power cut keeps the files
+pub keeps_to : (o contents : Option CallLog) (newest : List Entry) → IsTracedTo o contents newest → IfKnown o (λ opening. IfKnown contents (λ now. IsKeepingRun opening now newest))
+keeps_to o contents newest traced opening o_is now is tree settled =
+    let t = told_trace o contents newest opening now o_is is traced in
+    keeps_law opening now newest (at_rest t.0) tree settled t.1
 
 -- a run is safe at each moment
 pub safe_to : (o contents : Option CallLog) (newest : List Entry) → IsTracedTo o contents newest → IfKnown o (λ opening. IfKnown contents (λ now. IsSafeRun opening now newest))

@@ -13,6 +13,13 @@ use Rattle.session_entries.specs.Entries.{IsMoment}
 use Rattle.laws_sessions.specs.Safe.{IsSafe}
 use Rattle.laws_sessions.specs.Staying.{StaysDone}
 use Rattle.laws_sessions.specs.Whole.{LeavesWhole}
+use Rattle.laws_outcomes.specs.PowerCut.{KeepsAll}
+
+-- What a power cut leaves, at each moment of a run, keeps the files: the six sentences of `KeepsFiles` hold,
+-- where the tree had the shape of one at the opening, with nothing pending.
+abbrev pub IsKeepingRun : CallLog → CallLog → List Entry → Type 0
+IsKeepingRun opening now newest = IsTree (current opening) → all_settled opening.changes ≡ true
+    → KeepsAll opening now newest
 
 -- What a crash leaves, at each moment of a run, is safe, where the tree had the shape of one at the
 -- opening, with nothing pending: as of the entries that stand, or with the one that is under way.

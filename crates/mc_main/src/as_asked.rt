@@ -8,7 +8,8 @@ ghost use Rattle.mc_desk.specs.DeskDevices.{put_since, RanNothing};
 ghost use Rattle.mc_desk.specs.KeysAndFaults.{faults_in, has_lost};
 ghost use Rattle.mc_main.specs.Beginnings.{asked_in, printed_for, surroundings_in};
 ghost use Rattle.mc_main.specs.Beginnings.{start_in, status_with, text_of};
-ghost use Rattle.mc_main.specs.Headline.{IsSafeRun, IsFinishedRun, IsCalmedRun, IsReplayedRun, IsWholeRun};
+ghost use Rattle.mc_main.specs.Headline.{IsSafeRun, IsFinishedRun, IsCalmedRun, IsKeepingRun};
+ghost use Rattle.mc_main.specs.Headline.{IsReplayedRun, IsWholeRun};
 ghost use Rattle.mc_main.specs.Statuses.{IsStatusOr};
 ghost use Rattle.mc_main.specs.StartRefusals.{MayRefuseStart, RefusesStart, IsComplete};
 ghost use Rattle.mc_main.specs.SessionRuns.{IsRun, ShowsRun};
@@ -46,6 +47,8 @@ pub fn run_as_asked<N: Tag, T: Tree, K: Source, S: Sink, P: Spawner, C: Clock>(
     requires source { N.source_faults ≡ K.fault_count keys.old }
     requires sink { N.sink_faults ≡ S.fault_count screen }
     requires spawner { P.fault_count spawner ≡ N.spawner_faults }
+    ensures keeps { IfKnown (T.contents tree) (λ opening. IfKnown (T.contents result.tree) (λ now.
+        IsKeepingRun opening now (reverse result.history.entries))) }
     ensures safe { IfKnown (T.contents tree) (λ opening. IfKnown (T.contents result.tree) (λ now.
         IsSafeRun opening now (reverse result.history.entries))) }
     ensures whole { IfKnown (T.contents tree) (λ opening. IfKnown (T.contents result.tree) (λ now.

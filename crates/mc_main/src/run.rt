@@ -4,6 +4,7 @@ ghost use Rattle.tree_trait.specs.Answers.{IfKnown, HasRisen};
 ghost use Rattle.laws_sessions.specs.Traces.{IsTracedTo};
 ghost use Rattle.mc_desk.specs.DeskDevices.{put_since, RanNothing};
 ghost use Rattle.mc_main.specs.Beginnings.{asked_in, surroundings_in, start_in};
+ghost use Rattle.mc_main.specs.Headline.{IsKeepingRun};
 ghost use Rattle.mc_main.specs.KeysRead.{ReadsKeys, TookAll};
 ghost use Rattle.mc_main.specs.RunClauses.{HasEnded, HasStatus, KeepsTree, PrintsInstead, RefusesRun};
 ghost use Rattle.mc_main.specs.SessionRuns.{IsRun, ShowsRun};
@@ -58,6 +59,14 @@ pub fn mc_run<N: Tag, T: Tree, K: Source, S: Sink, P: Spawner, C: Clock, G: Gate
     requires source { N.source_faults ≡ K.fault_count keys.old }
     requires sink { N.sink_faults ≡ S.fault_count screen }
     requires spawner { P.fault_count spawner ≡ N.spawner_faults }
+
+    // Whenever the power is cut, inside a call too: what is copied is as it was; where something stood at a
+    // target stands that, or the new thing, whole, and where nothing stood nothing, or the new thing, whole;
+    // what is moved is whole at its source, or at its target, with all that lay in it; what is deleted is
+    // whole, or gone; and all else is as it was. Excepted are part files, and what wasn't on the disk yet
+    // when the job took its source up.
+    ensures keeps { IfKnown (T.contents tree) (λ opening. IfKnown (T.contents result.tree) (λ now.
+        IsKeepingRun opening now (reverse result.history.entries))) }
 
     // What a crash leaves, what the jobs did and what they were answered: the record has a field for each.
     ensures tree { IfKnown (T.contents tree) (λ opening. IfKnown (T.contents result.tree) (λ now.

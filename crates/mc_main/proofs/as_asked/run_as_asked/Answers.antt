@@ -10,8 +10,21 @@ use Rattle.mc_main.specs.KeysRead.{TookAll}
 use Rattle.mc_main.proofs.Printing.{at_most_five, begins_none, below_four, completes_none, not_at, print_is, prints_it, prints_not, prints_start, put_printed, put_start, refuses_none, session_is, some_prints_not, starts_in, status_few, text_given, usage_asked}
 use Rattle.mc_main.proofs.Starting.{completes, completes_by_five, may_refuse, refuses_by, refuses_listed}
 use Rattle.mc_main.proofs.Taking.{reads_none}
-use Rattle.mc_main.proofs.Runs.{none_counted, answered_to, calmed_to, finished_to, outcome_to, replayed_to, run_in, run_shows, shows_none, safe_to, traced_none, whole_to, refused_start}
+use Rattle.mc_main.proofs.Runs.{none_counted, answered_to, calmed_to, finished_to, keeps_to, outcome_to, replayed_to, run_in, run_shows, shows_none, safe_to, traced_none, whole_to, refused_start}
 use Rattle.mc_main.proofs.as_asked.run_as_asked.Goals as goal
+
+pub returns-in-Ok-Print-clause-keeps : goal.returns-in-Ok-Print-clause-keeps
+returns-in-Ok-Print-clause-keeps g c = keeps_to _ _ _ (traced_none _ _ (reverse c.refuse.result.history.entries) (ap reverse c.refuse.ensures.empty) (ap g.T.ReadTree.contents c.refuse.ensures.tree))
+
+pub returns-in-Err-clause-keeps : goal.returns-in-Err-clause-keeps
+returns-in-Err-clause-keeps g c = keeps_to _ _ _ (traced_none _ _ (reverse c.without_session.result.history.entries) (ap reverse c.without_session.ensures.empty) (ap g.T.ReadTree.contents c.without_session.ensures.tree))
+
+pub returns-in-Ok-clause-keeps : goal.returns-in-Ok-clause-keeps
+returns-in-Ok-clause-keeps g c =
+    keeps_to _ _ _ (subst (λ o. IsTracedTo o (g.T.ReadTree.contents c.run_desk.result.tree) (reverse c.run_desk.result.history.entries)) (sym c.requires.opening) c.run_desk.ensures.traced)
+
+pub returns-clause-keeps : goal.returns-clause-keeps
+returns-clause-keeps g c = keeps_to _ _ _ (traced_none _ _ (reverse c.refuse_start.result.history.entries) (ap reverse c.refuse_start.ensures.empty) (ap g.T.ReadTree.contents c.refuse_start.ensures.tree ∙ c.in-Err-begin.ensures.same))
 
 pub returns-in-Ok-Print-clause-safe : goal.returns-in-Ok-Print-clause-safe
 returns-in-Ok-Print-clause-safe g c = safe_to _ _ _ (traced_none _ _ (reverse c.refuse.result.history.entries) (ap reverse c.refuse.ensures.empty) (ap g.T.ReadTree.contents c.refuse.ensures.tree))
