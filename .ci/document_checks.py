@@ -85,12 +85,13 @@ def contract_of(crate, call):
     return "\n".join(found)
 
 
-def has_field(crate, field):
-    """Whether a record of a crate's definitions has such a field."""
-    for file in sorted(os.listdir(f"crates/{crate}/specs")):
-        with open(f"crates/{crate}/specs/{file}", encoding="utf-8") as source:
-            if re.search(rf"^ +pub {field} :", source.read(), re.M):
-                return True
+def has_field(field):
+    """Whether a record of the definitions has such a field."""
+    for folder, _, files in os.walk("crates"):
+        for file in files if folder.endswith("/specs") else []:
+            with open(f"{folder}/{file}", encoding="utf-8") as source:
+                if re.search(rf"^ +pub {field} :", source.read(), re.M):
+                    return True
     return False
 
 
@@ -100,7 +101,7 @@ def check_clause(path, crate, call, clauses, faults):
     faults.unless(contract, path, f"{crate} has no call {call}")
     of_trait = contract_of("tree_trait", call)
     for clause, _, field in (it.partition(".") for it in clauses):
-        faults.unless(not field or has_field(crate, field), path, f"no record of {crate} has a field {field}")
+        faults.unless(not field or has_field(field), path, f"no record has a field {field}")
         label = rf"\b{clause}\b" if clause == "ensures" else rf"\b(ensures|requires)\*? {clause}\b"
         stands = re.search(label, contract) or re.search(label, of_trait)
         faults.unless(not contract or stands, path, f"{call} of {crate} has no clause {clause}")
