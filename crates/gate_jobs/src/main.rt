@@ -17,7 +17,6 @@ impl Sections for Libraries {
             "resolving" => rows_panels::tell_resolving(page, rows),
             "listings" => rows_panels::tell_listings(page, rows),
             "answers" => rows_jobs::tell_answers(page, rows),
-            "histories" => rows_jobs::tell_histories(page, rows),
             "modes" => rows_jobs::tell_settings(page, rows),
             "saving" => rows_files::tell_saves(page, rows),
             _ => page.fail(),

@@ -3,10 +3,7 @@
 
 mod answers;
 mod asked;
-mod chance;
-mod histories;
 mod images;
-mod random_entries;
 mod scene;
 mod settings;
 mod standing;
@@ -14,5 +11,4 @@ mod telling;
 mod words;
 
 pub use answers::tell_answers;
-pub use histories::tell_histories;
 pub use settings::tell_settings;
