@@ -25,7 +25,7 @@ pub record KeepsTree (opening now : CallLog) (newest : List Entry) : Type 0 wher
   -- before its last change as long as that isn't on the disk: a copied source is unchanged, a target is as it
   -- was or has the source's bytes and mode, a file that is deleted is whole or gone, and so is one that is
   -- moved at its source. Parts that an entry named may be missing or hold anything, until they are gone or
-  -- replaced and that is on the disk.
+  -- replaced and that is on the disk; one that was left and then replaced, as long as something stands there.
   pub safe : IsSafeRun opening now newest
   -- A thing that is moved is whole at its source or at its target, in one and the same image, with all that
   -- lies in it, at each moment from its renaming on, inside that too, until another change is begun; but for
@@ -60,7 +60,7 @@ pub record HasEnded (started : ℕ) (entries : List Entry) (faults faults_after 
   pub counts : faults_in faults (reverse entries) ≤ faults_after
 
 -- Words that ask for no session: how the program is called, with status 1, or the help or the version, with
--- status 0. Then nothing else is done.
+-- status 0; or 4 or 5, where that could not be printed. Then nothing else is done.
 pub record PrintsInstead (asked : Option Words) (status : ℕ) (given given_after : Option (List ℕ))
     (same : Type 0) : Type 0 where
   pub usage : status ≡ 1 → printed_for asked ≡ Some Usage
@@ -87,7 +87,7 @@ pub record HasStatus (status : ℕ) (newest : List Entry) (contents : Option Cal
   pub most : status ≤ 5
   pub keyboard : status ≡ 3 → keys_failed
   pub screen : status ≡ 4 → screen_failed
-  -- where all paths can be read and no device failed it is 0, or 5 where memory ran out
+  -- where all paths can be read and no device failed it is 0, or 5 (which no clause ties to want of memory)
   pub complete : IfKnown contents (λ log.
       IsComplete log start status (tree_failed ⊎ (keys_failed ⊎ screen_failed)))
   -- a key that was lost makes it 5
