@@ -1,5 +1,5 @@
 -- Changes read as texts, when one is made, taken back, or made again.
-use Rattle.std.proofs.Common.{◌≡◌, ℕ, zero, suc, ◌+◌, ◌-◌, ◌≤◌, ◌<◌, true, false, List, [], ◌∷◌, length, take, slice_range, refl, sym, ap, ◌∙◌, arith, subst, Ok, Err, Some, None, slice_get}
+use Rattle.std.proofs.Common.{◌≡◌, ℕ, zero, suc, ◌+◌, ◌-◌, ◌≤◌, ◌<◌, Bool, true, false, List, [], ◌∷◌, length, take, slice_range, refl, sym, ap, ◌∙◌, arith, subst, Ok, Err, Some, None, slice_get}
 use Rattle.std.proofs.lemmas.Bool.{cond-true, cond-false, lt-ltb, le-ltb}
 use Rattle.std.specs.Str.{bytes_eq}
 use Rattle.std.proofs.lemmas.Slice.Eq.{bytes_eq-Decides}
@@ -15,13 +15,14 @@ use Rattle.mc_edit.specs.Changes.{text_before_change, text_after_change, edit_be
 use Rattle.mc_edit.proofs.SpliceLemmas.{length-between, length-spliced, spliced-back, bytes_eq-spliced}
 
 -- a value that an editor shows
-abbrev pub edited : List ℕ → ℕ → Block → List Change → List Change → EditedText
-edited bytes point block past future =
+abbrev pub edited : Bool → List ℕ → ℕ → Block → List Change → List Change → EditedText
+edited is_changed bytes point block past future =
     record {
       text = record { bytes = bytes; point = point };
       block = block;
       past = edits_back bytes past;
       future = edits_on bytes future;
+      is_changed = is_changed;
     }
 
 -- changes that are dropped leave the newer ones
@@ -91,17 +92,17 @@ module _ (bytes : List ℕ) (from to : ℕ) (ordered : from ≤ to) (within : to
       }
 
   -- and what it shows
-  pub changed-spliced : (block : Block) (past future : List Change) (depth : ℕ) → depth ≡ undo_depth
-      → after_edit (record { bytes = spliced_bytes bytes from to new; point = after }) (edited bytes before block past future)
-      ≡ edited (spliced_bytes bytes from to new) after Absent (take depth (splice_change bytes from to new before after ∷ past)) []
-  changed-spliced block past future depth deep =
+  pub changed-spliced : (was_changed : Bool) (block : Block) (past future : List Change) (depth : ℕ) → depth ≡ undo_depth
+      → after_edit (record { bytes = spliced_bytes bytes from to new; point = after }) (edited was_changed bytes before block past future)
+      ≡ edited true (spliced_bytes bytes from to new) after Absent (take depth (splice_change bytes from to new before after ∷ past)) []
+  changed-spliced was_changed block past future depth deep =
       let change = splice_change bytes from to new before after in
       let whole = spliced_bytes bytes from to new in
       let shown : edits_back whole (take depth (change ∷ past)) ≡ take undo_depth (edit_between change bytes whole ∷ edits_back bytes past) =
       edits_back-take depth whole (change ∷ past)
       ∙ ap (λ old. take depth (edit_between change old whole ∷ edits_back old past)) spliced-unmade
       ∙ ap (λ n. take n (edit_between change bytes whole ∷ edits_back bytes past)) deep in
-      ap (λ (edits : List Edit). record { text = record { bytes = whole; point = after }; block = Absent; past = edits; future = [] }) (sym shown)
+      ap (λ (edits : List Edit). record { text = record { bytes = whole; point = after }; block = Absent; past = edits; future = []; is_changed = true }) (sym shown)
 
 -- what is asked for, by its bytes
 module _ (new : PointedText) (old : EditedText) where
@@ -125,15 +126,16 @@ module _ (bytes : List ℕ) (change : Change) (older later : List Change) where
     subst (λ (new : List ℕ). LeadOn new later) (sym leads.forth) on,
   )
 
-  pub undone-back : (point : ℕ) (block : Block) → Leads change (text_before_change change bytes) bytes
-      → undone_by (edits_back bytes (change ∷ older)) (edited bytes point block (change ∷ older) later)
-      ≡ Ok (edited (text_before_change change bytes) change.before Absent older (change ∷ later))
-  undone-back point block leads =
+  pub undone-back : (was_changed : Bool) (point : ℕ) (block : Block) → Leads change (text_before_change change bytes) bytes
+      → undone_by (edits_back bytes (change ∷ older)) (edited was_changed bytes point block (change ∷ older) later)
+      ≡ Ok (edited true (text_before_change change bytes) change.before Absent older (change ∷ later))
+  undone-back was_changed point block leads =
       ap (λ (new : List ℕ). Ok (record {
         text = record { bytes = text_before_change change bytes; point = change.before };
         block = Absent;
         past = edits_back (text_before_change change bytes) older;
         future = edit_between change (text_before_change change bytes) new ∷ edits_on new later;
+        is_changed = true;
       })) (sym leads.forth)
 
   -- a change that is made again
@@ -143,41 +145,42 @@ module _ (bytes : List ℕ) (change : Change) (older later : List Change) where
     subst (λ (old : List ℕ). LeadHere old older) (sym leads.back) here,
   )
 
-  pub redone-on : (point : ℕ) (block : Block) → Leads change bytes (text_after_change change bytes)
-      → redone_by (edits_on bytes (change ∷ later)) (edited bytes point block older (change ∷ later))
-      ≡ Ok (edited (text_after_change change bytes) change.after Absent (change ∷ older) later)
-  redone-on point block leads =
+  pub redone-on : (was_changed : Bool) (point : ℕ) (block : Block) → Leads change bytes (text_after_change change bytes)
+      → redone_by (edits_on bytes (change ∷ later)) (edited was_changed bytes point block older (change ∷ later))
+      ≡ Ok (edited true (text_after_change change bytes) change.after Absent (change ∷ older) later)
+  redone-on was_changed point block leads =
       ap (λ (old : List ℕ). Ok (record {
         text = record { bytes = text_after_change change bytes; point = change.after };
         block = Absent;
         past = edit_between change old (text_after_change change bytes) ∷ edits_back old older;
         future = edits_on (text_after_change change bytes) later;
+        is_changed = true;
       })) (sym leads.back)
 
 -- a splice, by what it finds
 module _ (bytes : List ℕ) (from to : ℕ) (ordered : from ≤ to) (within : to ≤ length bytes) (new removed : List ℕ)
-    (is_removed : removed ≡ slice_range bytes from to) (at point : ℕ) (block : Block) (past future : List Change) where
+    (is_removed : removed ≡ slice_range bytes from to) (was_changed : Bool) (at point : ℕ) (block : Block) (past future : List Change) where
   still : bytes_eq new removed ≡ bytes_eq (spliced_bytes bytes from to new) bytes
   still = ap (bytes_eq new) is_removed ∙ bytes_eq-spliced bytes from to ordered within new
 
   pub splice-same : true ≡ bytes_eq new removed
-      → replaced_text (edited bytes at block past future) from to new point ≡ Ok (edited bytes point block past future)
+      → replaced_text (edited was_changed bytes at block past future) from to new point ≡ Ok (edited was_changed bytes point block past future)
   splice-same is_same =
-      settled-same (record { bytes = spliced_bytes bytes from to new; point = point }) (edited bytes at block past future) (sym still ∙ sym is_same)
+      settled-same (record { bytes = spliced_bytes bytes from to new; point = point }) (edited was_changed bytes at block past future) (sym still ∙ sym is_same)
 
   pub splice-large : bytes_eq new removed ≡ false → (size : ℕ) → size ≡ from + (length new + (length bytes - to)) → largest_text < size
-      → replaced_text (edited bytes at block past future) from to new point ≡ Err (TooLarge size)
+      → replaced_text (edited was_changed bytes at block past future) from to new point ≡ Err (TooLarge size)
   splice-large differs size is_size large =
       let long : length (spliced_bytes bytes from to new) ≡ size = length-spliced bytes from to ordered within new ∙ sym is_size in
-      settled-large (record { bytes = spliced_bytes bytes from to new; point = point }) (edited bytes at block past future) (sym still ∙ differs) (omega arith)
+      settled-large (record { bytes = spliced_bytes bytes from to new; point = point }) (edited was_changed bytes at block past future) (sym still ∙ differs) (omega arith)
       ∙ ap (λ (n : ℕ). Err (TooLarge n)) long
 
   pub splice-changed : bytes_eq new removed ≡ false → length (spliced_bytes bytes from to new) ≤ largest_text → (depth : ℕ) → depth ≡ undo_depth
-      → replaced_text (edited bytes at block past future) from to new point
-      ≡ Ok (edited (spliced_bytes bytes from to new) point Absent (take depth (splice_change bytes from to new at point ∷ past)) [])
+      → replaced_text (edited was_changed bytes at block past future) from to new point
+      ≡ Ok (edited true (spliced_bytes bytes from to new) point Absent (take depth (splice_change bytes from to new at point ∷ past)) [])
   splice-changed differs small depth deep =
-      settled-changed (record { bytes = spliced_bytes bytes from to new; point = point }) (edited bytes at block past future) (sym still ∙ differs) small
-      ∙ ap (λ (e : EditedText). Ok e) (changed-spliced bytes from to ordered within new at point block past future depth deep)
+      settled-changed (record { bytes = spliced_bytes bytes from to new; point = point }) (edited was_changed bytes at block past future) (sym still ∙ differs) small
+      ∙ ap (λ (e : EditedText). Ok e) (changed-spliced bytes from to ordered within new at point was_changed block past future depth deep)
 
 -- an undo and a redo, by the change that stands first
 module _ (bytes new : List ℕ) (point : ℕ) (block : Block) (change : Change) (history : UndoHistory) where
@@ -203,23 +206,23 @@ module _ (bytes new : List ℕ) (point : ℕ) (block : Block) (change : Change) 
   IsEditor-undone first is_new editor =
       subst (λ (b : List ℕ). IsEditor b change.before Absent (undone_history history)) (sym is_new) (IsEditor-back history.past first editor)
 
-  undone-first : (past : List Change) → Some change ≡ slice_get past 0 → LeadHere bytes past
-      → undone_by (edits_back bytes past) (edited bytes point block past history.future)
-      ≡ Ok (edited (text_before_change change bytes) change.before Absent
+  undone-first : (was_changed : Bool) (past : List Change) → Some change ≡ slice_get past 0 → LeadHere bytes past
+      → undone_by (edits_back bytes past) (edited was_changed bytes point block past history.future)
+      ≡ Ok (edited true (text_before_change change bytes) change.before Absent
       (undone_history (record { past = past; future = history.future; depth = history.depth })).past
       (undone_history (record { past = past; future = history.future; depth = history.depth })).future)
-  undone-first [] first here = cc
-  undone-first (other ∷ older) first here =
+  undone-first was_changed [] first here = cc
+  undone-first was_changed (other ∷ older) first here =
       let is_other : other ≡ change = cc in
-      undone-back bytes other older history.future point block here.0
-      ∙ ap (λ (c : Change). Ok (edited (text_before_change c bytes) c.before Absent older (other ∷ history.future))) is_other
+      undone-back bytes other older history.future was_changed point block here.0
+      ∙ ap (λ (c : Change). Ok (edited true (text_before_change c bytes) c.before Absent older (other ∷ history.future))) is_other
 
-  pub undone-is : Some change ≡ slice_get history.past 0 → new ≡ text_before_change change bytes → IsEditor bytes point block history
-      → undone_by (edits_back bytes history.past) (edited bytes point block history.past history.future)
-      ≡ Ok (edited new change.before Absent (undone_history history).past (undone_history history).future)
-  undone-is first is_new editor =
-      undone-first history.past first editor.leads_here
-      ∙ ap (λ (b : List ℕ). Ok (edited b change.before Absent (undone_history history).past (undone_history history).future)) (sym is_new)
+  pub undone-is : (was_changed : Bool) → Some change ≡ slice_get history.past 0 → new ≡ text_before_change change bytes → IsEditor bytes point block history
+      → undone_by (edits_back bytes history.past) (edited was_changed bytes point block history.past history.future)
+      ≡ Ok (edited true new change.before Absent (undone_history history).past (undone_history history).future)
+  undone-is was_changed first is_new editor =
+      undone-first was_changed history.past first editor.leads_here
+      ∙ ap (λ (b : List ℕ). Ok (edited true b change.before Absent (undone_history history).past (undone_history history).future)) (sym is_new)
 
   IsEditor-on : (future : List Change) → Some change ≡ slice_get future 0
       → IsEditor bytes point block (record { past = history.past; future = future; depth = history.depth })
@@ -243,23 +246,23 @@ module _ (bytes new : List ℕ) (point : ℕ) (block : Block) (change : Change) 
   IsEditor-redone first is_new editor =
       subst (λ (b : List ℕ). IsEditor b change.after Absent (redone_history history)) (sym is_new) (IsEditor-on history.future first editor)
 
-  redone-first : (future : List Change) → Some change ≡ slice_get future 0 → LeadOn bytes future
-      → redone_by (edits_on bytes future) (edited bytes point block history.past future)
-      ≡ Ok (edited (text_after_change change bytes) change.after Absent
+  redone-first : (was_changed : Bool) (future : List Change) → Some change ≡ slice_get future 0 → LeadOn bytes future
+      → redone_by (edits_on bytes future) (edited was_changed bytes point block history.past future)
+      ≡ Ok (edited true (text_after_change change bytes) change.after Absent
       (redone_history (record { past = history.past; future = future; depth = history.depth })).past
       (redone_history (record { past = history.past; future = future; depth = history.depth })).future)
-  redone-first [] first on = cc
-  redone-first (other ∷ later) first on =
+  redone-first was_changed [] first on = cc
+  redone-first was_changed (other ∷ later) first on =
       let is_other : other ≡ change = cc in
-      redone-on bytes other history.past later point block on.0
-      ∙ ap (λ (c : Change). Ok (edited (text_after_change c bytes) c.after Absent (other ∷ history.past) later)) is_other
+      redone-on bytes other history.past later was_changed point block on.0
+      ∙ ap (λ (c : Change). Ok (edited true (text_after_change c bytes) c.after Absent (other ∷ history.past) later)) is_other
 
-  pub redone-is : Some change ≡ slice_get history.future 0 → new ≡ text_after_change change bytes → IsEditor bytes point block history
-      → redone_by (edits_on bytes history.future) (edited bytes point block history.past history.future)
-      ≡ Ok (edited new change.after Absent (redone_history history).past (redone_history history).future)
-  redone-is first is_new editor =
-      redone-first history.future first editor.leads_on
-      ∙ ap (λ (b : List ℕ). Ok (edited b change.after Absent (redone_history history).past (redone_history history).future)) (sym is_new)
+  pub redone-is : (was_changed : Bool) → Some change ≡ slice_get history.future 0 → new ≡ text_after_change change bytes → IsEditor bytes point block history
+      → redone_by (edits_on bytes history.future) (edited was_changed bytes point block history.past history.future)
+      ≡ Ok (edited true new change.after Absent (redone_history history).past (redone_history history).future)
+  redone-is was_changed first is_new editor =
+      redone-first was_changed history.future first editor.leads_on
+      ∙ ap (λ (b : List ℕ). Ok (edited true b change.after Absent (redone_history history).past (redone_history history).future)) (sym is_new)
 
 -- the change that stands first leads
 module _ (bytes : List ℕ) (change : Change) where

@@ -3,4 +3,5 @@ pub mod ReplacingLemmas
 pub mod ChangeLemmas
 pub mod SpliceLemmas
 pub mod LineLemmas
+mod MarkedLemmas
 pub mod UnitLemmas

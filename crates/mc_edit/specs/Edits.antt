@@ -1,7 +1,7 @@
 -- A text that is edited: its point, its block, its past and its future. Own; mcedit(1)
 -- has undo without its rules.
-use Rattle.std.specs.Prelude.{ℕ, ◌==◌, min, max, nat_lt, Option, Some, None, List, [], ◌∷◌}
-use Rattle.std.specs.Prelude.{◌++◌, take, drop, length, Result, Ok, Err, if◌then◌else◌}
+use Rattle.std.specs.Prelude.{ℕ, Bool, true, false, ◌==◌, min, max, nat_lt, Option, Some, None, List}
+use Rattle.std.specs.Prelude.{[], ◌∷◌, ◌++◌, take, drop, length, Result, Ok, Err, if◌then◌else◌}
 use Rattle.std.specs.Str.{bytes_eq}
 use Rattle.gap_text.specs.PointedText.{PointedText, opened_text}
 use Rattle.mc_edit.specs.declared.block.Block.{Block}
@@ -14,12 +14,14 @@ pub record Edit : Type 0 where
   pub before : PointedText
   pub after : PointedText
 
--- the newest change stands first in the past, the next to be redone first in the future
+-- The newest change stands first in the past, the next to be redone first in the future. It is changed once
+-- its bytes were, also by an undo, until that is forgotten.
 pub record EditedText : Type 0 where
   pub text : PointedText
   pub block : Block
   pub past : List Edit
   pub future : List Edit
+  pub is_changed : Bool
 
 -- so many bytes a text may have
 unfoldable pub largest_text : ℕ
@@ -31,7 +33,8 @@ undo_depth = 32768
 
 -- these bytes, with the point before the first
 abbrev pub begun_text : List ℕ → EditedText
-begun_text bytes = record { text = opened_text bytes; block = Absent; past = []; future = [] }
+begun_text bytes =
+    record { text = opened_text bytes; block = Absent; past = []; future = []; is_changed = false }
 
 -- the bytes from one place up to another give way to new ones
 abbrev pub spliced_bytes : List ℕ → ℕ → ℕ → List ℕ → List ℕ
@@ -46,6 +49,7 @@ after_edit new edited =
       block = Absent;
       past = take undo_depth (record { before = edited.text; after = new } ∷ edited.past);
       future = [];
+      is_changed = true;
     }
 
 -- a text that is asked for: where the bytes stay as they are the point alone moves, and nothing is noted
@@ -59,13 +63,25 @@ requested_text new edited =
 abbrev pub undone_by : List Edit → EditedText → Result EditedText EditError
 undone_by [] edited = Err NothingToUndo
 undone_by (edit ∷ older) edited =
-    Ok (record { text = edit.before; block = Absent; past = older; future = edit ∷ edited.future })
+    Ok (record {
+      text = edit.before;
+      block = Absent;
+      past = older;
+      future = edit ∷ edited.future;
+      is_changed = true;
+    })
 
 -- the change that was taken back last is made again
 abbrev pub redone_by : List Edit → EditedText → Result EditedText EditError
 redone_by [] edited = Err NothingToRedo
 redone_by (edit ∷ later) edited =
-    Ok (record { text = edit.after; block = Absent; past = edit ∷ edited.past; future = later })
+    Ok (record {
+      text = edit.after;
+      block = Absent;
+      past = edit ∷ edited.past;
+      future = later;
+      is_changed = true;
+    })
 
 -- a mark begins a block at the point, the next one fixes it, and the third begins a new one
 abbrev pub marked_at : ℕ → Block → Block

@@ -5,6 +5,7 @@ pub mod CommandLists
 pub mod Commands
 pub mod Edits
 pub mod Lines
+pub mod Marked
 pub mod Moves
 pub mod Pages
 pub mod Replacing

@@ -6,7 +6,8 @@ mod playing;
 mod typing;
 mod viewing;
 
-ghost use Rattle.std.specs.Prelude.{◌≡◌, ◌≢◌, ◌+◌, ◌≤◌, ◌<◌, [], IfOk, OnOk, IfErr, OnErr, Ok, Err, length};
+ghost use Rattle.std.specs.Prelude.{◌≡◌, ◌≢◌, ◌+◌, ◌≤◌, ◌<◌, false, [], IfOk};
+ghost use Rattle.std.specs.Prelude.{OnOk, IfErr, OnErr, Ok, Err, length};
 ghost use Rattle.mc_edit.specs.declared.error.EditError.TheVariants.{Memory, TooLarge};
 ghost use Rattle.mc_edit.specs.Edits.{EditedText, begun_text, largest_text};
 ghost use Rattle.mc_edit.specs.Edits.{undone_by, redone_by, spliced_bytes, marked_at};
@@ -37,6 +38,8 @@ pub struct Editor {
     point: usize,
     block: Block,
     undo: Undo,
+    /// The bytes were changed since that was forgotten.
+    is_changed: bool,
 }
 
 impl Model for Editor {
@@ -50,6 +53,7 @@ impl Model for Editor {
       block = e.block;
       past = edits_back e.text.bytes e.undo.past;
       future = edits_on e.text.bytes e.undo.future;
+      is_changed = e.is_changed;
     } };
 
     ghost invariant = { λ e. IsEditor e.text.bytes e.point e.block e.undo };
@@ -83,6 +87,7 @@ impl Editor {
             point: 0,
             block: Block::Absent,
             undo: Undo::new(alloc, UNDO_DEPTH)?,
+            is_changed: false,
         })
     }
 
@@ -99,6 +104,20 @@ impl Editor {
         ensures within { result ≤ length self.now.text.bytes }
     {
         self.point
+    }
+
+    /// Whether the bytes were changed since they were given, or since that was forgotten.
+    pub fn is_changed(&self) -> bool
+        ensures { result ≡ self.now.is_changed }
+    {
+        self.is_changed
+    }
+
+    /// Forgets that the bytes were changed, as when they are saved.
+    pub fn forget_change(&mut self)
+        ensures { self.new ≡ record self.old { is_changed = false } }
+    {
+        self.is_changed = false;
     }
 
     /// Bytes give way to new ones, as one change, unless they are the same.
@@ -137,6 +156,7 @@ impl Editor {
         });
         self.point = point;
         self.block = Block::Absent;
+        self.is_changed = true;
         Ok(())
     }
 
@@ -155,6 +175,7 @@ impl Editor {
         self.undo.step_back();
         self.point = point;
         self.block = Block::Absent;
+        self.is_changed = true;
         Ok(())
     }
 
@@ -173,6 +194,7 @@ impl Editor {
         self.undo.step_forward();
         self.point = point;
         self.block = Block::Absent;
+        self.is_changed = true;
         Ok(())
     }
 

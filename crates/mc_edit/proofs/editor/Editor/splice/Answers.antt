@@ -13,7 +13,7 @@ returns-then-are_same-clause-done c =
     let within : c.args.splice.to ≤ length bytes = omega (arith, c.requires.within, ap length bytes_are) in
     rw (← c.self.view_is)
     (splice-same bytes c.args.splice.from c.args.splice.to c.requires.ordered within c.args.splice.new c.in_ok-removed.removed
-    c.in_ok-removed.ensures c.self.inside.point c.args.splice.point c.self.inside.block c.self.inside.undo.past c.self.inside.undo.future
+    c.in_ok-removed.ensures c.self.inside.is_changed c.self.inside.point c.args.splice.point c.self.inside.block c.self.inside.undo.past c.self.inside.undo.future
     c.if-are_same.ensures)
 
 pub returns-then-size-gt-LARGEST_TEXT-clause-refused :
@@ -29,7 +29,7 @@ returns-then-size-gt-LARGEST_TEXT-clause-refused c =
     omega (arith, ap length c.slice_of.ensures, c.len.ensures.value) in
     λ other. rw (← c.self.view_is)
     (splice-large bytes from to c.requires.ordered within c.args.splice.new c.in_ok-removed.removed
-    c.in_ok-removed.ensures c.self.inside.point c.args.splice.point c.self.inside.block c.self.inside.undo.past c.self.inside.undo.future
+    c.in_ok-removed.ensures c.self.inside.is_changed c.self.inside.point c.args.splice.point c.self.inside.block c.self.inside.undo.past c.self.inside.undo.future
     (sym c.if-are_same.ensures) size is_size (omega (arith, largest_is, c.if-size-gt-LARGEST_TEXT.true)))
 
 pub invariant_of-self-2 : goal.invariant_of-self-2
@@ -76,5 +76,5 @@ returns-clause-done c =
     let kept : c.note.new.self ≡ noted_history history (splice_change bytes from to new before point) =
     c.note.ensures ∙ ap (λ (l : List ℕ). noted_history history (record { at = from; removed = l; inserted = new; before = before; after = point })) c.in_ok-removed.ensures in
     rw (← c.self.view_is, whole, kept)
-    (splice-changed bytes from to c.requires.ordered within new c.in_ok-removed.removed c.in_ok-removed.ensures before point
+    (splice-changed bytes from to c.requires.ordered within new c.in_ok-removed.removed c.in_ok-removed.ensures c.self.inside.is_changed before point
     c.self.inside.block history.past history.future (sym c.if-are_same.ensures) small history.depth c.self.invariant.depth)

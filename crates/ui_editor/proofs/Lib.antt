@@ -1,0 +1,3 @@
+mod DigitLemmas
+mod OpeningLemmas
+mod TextSizes

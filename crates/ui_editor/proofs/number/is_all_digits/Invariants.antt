@@ -1,0 +1,7 @@
+-- The bytes that are left decide.
+use Rattle.std.proofs.Common.{◌≡◌, drop}
+use Rattle.std.specs.Str.{all_ascii_digits}
+use Rattle.ui_editor.proofs.number.is_all_digits.Given as goal
+
+abbrev pub invariant-loop-byte : goal.invariant-loop-byte
+invariant-loop-byte l = all_ascii_digits l.text ≡ all_ascii_digits (drop l.byte-index l.text)

@@ -1,0 +1,5 @@
+pub mod EditorKeys
+pub mod Questions
+pub mod EditorScreens
+pub mod EditorOpenings
+pub mod EditorFrames
