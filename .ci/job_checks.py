@@ -332,6 +332,21 @@ def check_set_id_bits(program, base, check):
         status, _, _ = run(program, folders, COPY + [F10], user=user)
         check(f"a copy keeps mode {mode:o}", status == 0 and facts(os.path.join(folders[1], "x")) == facts(file))
 
+    if user is None:
+        print("this isn't root: a copy of a stranger's program was not tried")
+        return
+    for owner, mode, wanted in [(user, 0o4755, 0o755), (user, 0o6711, 0o711), (user, 0o1644, 0o1644), (os.geteuid(), 0o4755, 0o4755)]:
+        folders = [os.path.join(base, f"{side}{mode:o} of {owner}") for side in "st"]
+        for folder in folders:
+            os.mkdir(folder)
+        file = os.path.join(folders[0], "x")
+        make_file(file, 9, 0o644)
+        os.chown(file, owner, owner)
+        os.chmod(file, mode)
+        status, _, _ = run(program, folders, COPY + [F10])
+        check(f"root's copy of a file of user {owner} with mode {mode:o} has {wanted:o}", status == 0 and facts(os.path.join(folders[1], "x"))[1] == wanted)
+        check("and the file keeps its own", facts(file)[1] == mode)
+
 
 def check_folders(program, base, check):
     """A folder is deleted with all that lies in it, and nothing that its links lead to."""

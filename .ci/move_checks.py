@@ -6,7 +6,9 @@ import tempfile
 
 from frames import LONG_AGO, with_box
 from several_checks import folder_with
-from terminal_run import DOWN, EMPTY, END, ENTER, ESCAPE, F10, F6, F8, INSERT, for_somebody, left_panel, make_file, run, things_at
+from terminal_run import (
+    DOWN, EMPTY, END, ENTER, ESCAPE, F10, F6, F8, INSERT, for_somebody, left_panel, make_file, run, things_at, without_sync,
+)
 
 MOVE = [DOWN, F6, ENTER, ENTER]
 
@@ -239,8 +241,9 @@ def check_other_mounts(program, base, check):
 
 
 def check_barred_moves(program, base, check):
-    """A folder that may not be changed bars the renaming, and one that may not be read its sync."""
+    """A folder that may not be changed bars the renaming, and one that may not be read its sync, where there is no `sync`."""
     user, program = for_somebody(program, base)
+    commands = without_sync(base)
 
     def owned(name, sources):
         source, target = place(base, name, sources, {})
@@ -257,14 +260,14 @@ def check_barred_moves(program, base, check):
 
     source, target, before = owned("closed", {"x": 3})
     shut, mended = (lambda _: os.chmod(target, 0o300)), (lambda _: os.chmod(target, 0o700))
-    status, told, same = run(program, [source, target], [DOWN, F6, ENTER, shut, ENTER, b"s", b"a", mended, b"r", F10], user=user)
+    status, told, same = run(program, [source, target], [DOWN, F6, ENTER, shut, ENTER, b"s", b"a", mended, b"r", F10], user=user, folders=commands)
     check("where the sync of the target's folder is refused a retry makes it", status == 0 and same and b"r Retry  b Abort" in told and things_in(source) == {} and things_in(target) == before)
 
     source, target, before = owned("dirty", {"x": 3, "y": 5})
     shut, mended = (lambda _: os.chmod(target, 0o300)), (lambda _: os.chmod(target, 0o700))
     # The look after the abort can't read the target's folder: Enter closes the message.
     first = [DOWN, F6, ENTER, shut, ENTER, b"b", ENTER]
-    status, told, same = run(program, [source, target], first + [END, F8, ENTER, mended, b"r", F10], user=user)
+    status, told, same = run(program, [source, target], first + [END, F8, ENTER, mended, b"r", F10], user=user, folders=commands)
     check("after an abort the next job syncs that folder first", status == 0 and same and sum("r Retry  b Abort" in row for screen in told.screens for row in screen.rows()) > 1 and things_in(source) == {} and things_in(target) == {"x": before["x"]})
 
 

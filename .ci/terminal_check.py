@@ -21,7 +21,7 @@ from several_checks import check_several_things
 from start_checks import check_signals, check_stty, check_words
 from terminal_run import DOWN, ENTER, F10, F8, USAGE, run
 from trouble_checks import (
-    check_barred_mode, check_closed_folder, check_dirty_folder, check_list_of_jobs, check_long_path,
+    check_barred_mode, check_closed_folder, check_dirty_folder, check_drop_box, check_list_of_jobs, check_long_path,
     check_part_left, check_path_too_long, check_unread_folder,
 )
 
@@ -71,6 +71,7 @@ def main():
         check_modes(program, base, check)
         check_barred_mode(program, base, check)
         check_closed_folder(program, base, check)
+        check_drop_box(program, base, check)
         check_long_path(program, base, check)
         check_path_too_long(program, base, check)
         check_dirty_folder(program, base, check)

@@ -175,6 +175,16 @@ def things_at(path):
     return facts(path) if stat.S_ISREG(mode) else "special"
 
 
+def without_sync(base):
+    """A folder of commands in which the program finds all that it runs but `sync`: there a folder that may not be read can't be synced."""
+    folder = os.path.join(base, "commands without sync")
+    if not os.path.isdir(folder):
+        os.mkdir(folder)
+        for name in ("sh", "stty"):
+            os.symlink(shutil.which(name), os.path.join(folder, name))
+    return folder
+
+
 def for_somebody(program, base):
     """Somebody as whom the program runs where this is root, who may read and remove all; and the program where he may run it."""
     if os.geteuid() != 0:

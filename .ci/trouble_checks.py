@@ -3,7 +3,10 @@ import os
 import stat
 
 from frames import with_box
-from terminal_run import COPY, DOWN, END, ENTER, ESCAPE, F10, F5, F7, F8, INSERT, MODE, facts, for_somebody, make_file, run, things_at
+from terminal_run import (
+    COPY, DOWN, EMPTY, END, ENTER, ESCAPE, F10, F5, F7, F8, INSERT, MODE, facts, for_somebody, make_file, run, things_at,
+    without_sync,
+)
 
 
 def check_barred_mode(program, base, check):
@@ -38,6 +41,26 @@ def check_closed_folder(program, base, check):
     check("and the panel stays as it was", after.rows() == before.rows())
 
 
+def check_drop_box(program, base, check):
+    """A folder that may be written and not read takes a copy, and no later job waits for its sync."""
+    user, program = for_somebody(program, base)
+    folder, box = os.path.join(base, "source of the box"), os.path.join(base, "box")
+    for place in (folder, box):
+        os.mkdir(place)
+        if user is not None:
+            os.chown(place, user, user)
+    make_file(os.path.join(folder, "x"), 9, 0o644)
+    if user is not None:
+        os.chown(os.path.join(folder, "x"), user, user)
+    wanted = facts(os.path.join(folder, "x"))
+    os.chmod(box, 0o1333)
+    keys = [DOWN, F5, ENTER, EMPTY + os.fsencode(box) + b"/", ENTER, F8, ENTER, F10]
+    status, told, same = run(program, [folder], keys, user=user)
+    os.chmod(box, 0o700)
+    check("a folder that may not be read takes a copy", status == 0 and same and things_at(box)[1] == {"x": wanted})
+    check("and the next job isn't asked for its sync", os.listdir(folder) == [] and b"permission denied" not in told)
+
+
 def check_long_path(program, base, check):
     """A path is cut in its box."""
     folder = os.path.join(base, "l" * 60, "m" * 60)
@@ -69,8 +92,9 @@ def check_path_too_long(program, base, check):
 
 
 def check_dirty_folder(program, base, check):
-    """A folder that may be changed and not read can't be synced: what an aborted deletion left there comes first."""
+    """A folder that may be changed and not read can't be synced where there is no `sync`: what an aborted deletion left there comes first."""
     user, program = for_somebody(program, base)
+    commands = without_sync(base)
 
     for name, mode, left in [("left", 0o300, ["y"]), ("mended", 0o700, [])]:
         folder = os.path.join(base, name)
@@ -83,7 +107,7 @@ def check_dirty_folder(program, base, check):
         shut, mended = (lambda _: os.chmod(folder, 0o300)), (lambda _: os.chmod(folder, mode))
         # The look after the abort can't read the folder: Enter closes the message.
         first = [DOWN, F8, shut, ENTER, b"b", ENTER, lambda _: os.chmod(folder, 0o700), DOWN]
-        status, told, same = run(program, [folder], first + [F8, mended, ENTER, F10, F10], user=user)
+        status, told, same = run(program, [folder], first + [F8, mended, ENTER, F10, F10], user=user, folders=commands)
         os.chmod(folder, 0o700)
         what = f"a folder that an aborted job left, of mode {mode:o} then,"
         check(f"{what} comes before the next deletion", status == 0 and same and os.listdir(folder) == left)

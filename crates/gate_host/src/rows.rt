@@ -234,7 +234,15 @@ sync_folder box
 mode box 100
 sync_folder box
 mode box 300
-sh test $(stat -c %a box) = 100; chmod 700 box";
+sh test $(stat -c %a box) = 100; chmod 700 box
+
+# A folder that may not be opened is synced with all else
+sh mkdir box; chmod 300 box
+file box/n 600
+sync_file box/n
+rename box/n box/m
+sync_folder box
+sh test $(stat -c %a box) = 300; chmod 700 box";
 
 /// Commands for the shell, each behind the folder in which it runs.
 pub fn commands() -> &'static str {

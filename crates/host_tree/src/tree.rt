@@ -9,6 +9,7 @@ use mc_text::{Path, Text};
 use std::alloc::{AllocGlobal, Global};
 use std::marker::Model;
 use std::os::unix::fs::FileExt;
+use std::process::Processes;
 use std::rt::Files;
 use tree_trait::{Children, Meta, ReadTree, Tree, TreeError};
 
@@ -92,7 +93,7 @@ where
     }
 }
 
-impl<R: Files> Tree for HostTree<R>
+impl<R: Files + Processes> Tree for HostTree<R>
 where
     R::File: FileExt,
 {

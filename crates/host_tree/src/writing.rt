@@ -7,14 +7,15 @@ ghost use Rattle.host_tree.specs.Modes.{bars_owner};
 use crate::kept::{Access, KeptFile};
 use crate::kinds::Wanted;
 use crate::machine::Machine;
-use host_devices::answer_of;
+use host_devices::{answer_of, cause_of};
 use mc_text::Path;
 use std::alloc::Global;
 use std::convert::AsStr;
-use std::fs;
 use std::fs::{File, OpenFile, OpenOptions, Permissions};
 use std::os::unix::fs::{FileExt, OpenOptionsExt, PermissionsExt};
+use std::process::{Command, Processes, Stdio};
 use std::rt::Files;
+use std::{fs, io};
 use tree_trait::TreeError;
 
 /// The permissions of a mode's twelve bits.
@@ -24,7 +25,7 @@ pub fn permissions_of(mode: u16) -> Permissions
     Permissions::from_mode(u32::from(mode))
 }
 
-impl<R: Files> Machine<R>
+impl<R: Files + Processes> Machine<R>
 where
     R::File: FileExt,
 {
@@ -141,9 +142,32 @@ where
         if let Some(open) = self.kept.at(path) {
             return answer_of(open.file.sync_all());
         }
-        let file = answer_of(File::open(&self.rt, text.as_str()))?;
-        answer_of(file.sync_all())
+        match answer_of(File::open(&self.rt, text.as_str())) {
+            Ok(file) => answer_of(file.sync_all()),
+            Err(TreeError::Denied) if wanted == Wanted::Folder => sync_disks(&self.rt, alloc),
+            Err(refusal) => Err(refusal),
+        }
     }
+}
+
+/// Brings all that the system holds onto its disks, by the command `sync`: a folder that may not be opened,
+/// as a drop box, can't be synced alone. Where the command can't do that, the folder's own refusal stands.
+fn sync_disks<R: Processes>(rt: &R, alloc: Global) -> Result<(), TreeError> {
+    match run_sync(rt, alloc) {
+        Ok(true) => Ok(()),
+        Err(error) if cause_of(&error) == TreeError::Memory => Err(TreeError::Memory),
+        Ok(false) | Err(_) => Err(TreeError::Denied),
+    }
+}
+
+/// Whether the command `sync` ended well.
+fn run_sync<R: Processes>(rt: &R, alloc: Global) -> io::Result<bool> {
+    let status = Command::new(alloc, "sync")?
+        .stdin(Stdio::null())
+        .stdout(Stdio::null())
+        .stderr(Stdio::null())
+        .status(rt)?;
+    Ok(status.success())
 }
 
 /// The bit of a mode that lets the owner read.
@@ -177,7 +201,7 @@ fn create<R: Files>(rt: &R, text: &str, mode: u16) -> Result<R::File, TreeError>
 }
 
 /// The bits of a mode that lend a program the rights of its owner and of its group.
-const SET_ID_BITS: u32 = 0o6000;
+pub const SET_ID_BITS: u32 = 0o6000;
 
 /// For what a file of this mode is open, where it is open to be written.
 fn access_by(mode: u16) -> Access {
