@@ -92,6 +92,23 @@ def check_contents(document, faults):
             faults.unless(f"(#{anchor})" in opening, document.path, f"its contents lack {line.strip('# ')}")
 
 
+def check_definitions(document, faults):
+    """Each word of an entry of the definitions stands in one of the files that the entry names."""
+    for entry in re.split(r"\n(?=- \*\*|\n|#)", document.text):
+        told = re.match(r"- \*\*(.+?)\*\*\s*\(([^)]*)\)", entry.replace("\n", " "))
+        folder, text = "", ""
+        for path in re.findall(r"`([\w/]+\.antt)`", entry) if told else []:
+            folder = os.path.dirname(path) or folder
+            places = [f"crates/{folder}/{os.path.basename(path)}", f"crates/{folder.split('/')[0]}/proofs/{os.path.basename(path)}"]
+            place = next(filter(os.path.exists, places), None)
+            faults.unless(place, document.path, f"{told[1]}: no file {path}")
+            if place:
+                with open(place, encoding="utf-8") as file:
+                    text += file.read()
+        for word in re.findall(r"`(\w+)`", told[2]) if told else []:
+            faults.unless(re.search(rf"\b{word}\b", text), document.path, f"{told[1]}: {word} stands in none of its files")
+
+
 def signatures(text, name):
     """The functions of this name in a source, each from its name to its body, with their contracts."""
     for found in re.finditer(rf"\bfn {name}\b", text):
@@ -201,6 +218,7 @@ def main():
     check_map(Document(MAP), crates, faults)
     check_questions(Document(MAP), faults)
     check_groups(Document(MAP), faults)
+    check_definitions(Document("docs/DEFINITIONS.md"), faults)
     for path in WITH_CONTENTS:
         check_contents(Document(path), faults)
     for path in PROMISES:
