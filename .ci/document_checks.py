@@ -13,6 +13,7 @@ from document_words import AREAS, Document, crates_below, edges, repository_file
 README_LINES, README_WORDS, KEY_WORDS, PROMISE_WORDS, RECIPE_LINES = 130, 30, 12, 40, 30
 RECIPES = ["Add a key", "Add a kind of job"]
 MAP, PROMISES = "docs/ARCHITECTURE.md", ["docs/PROMISES.md", "docs/CRATE-PROMISES.md"]
+QUESTIONS, WITH_CONTENTS = 20, ["docs/DEFINITIONS.md", "docs/DECISIONS.md"]
 # What stands in code spans, and is no word of the code: placeholders, words of commands, names that are told as examples.
 NO_WORDS = ".ci/document_words.txt"
 
@@ -58,6 +59,54 @@ def check_map(map_of_crates, crates, faults):
         faults.unless(not late, MAP, f"{name} stands before {late}, which it stands on")
     for name in crates:
         faults.unless(os.path.exists(f"crates/{name}/README.md"), f"crates/{name}", "no README")
+
+
+def check_questions(map_of_crates, faults):
+    """The questions of a newcomer, each with an answer in short and the file that has all of it."""
+    rows = map_of_crates.rows("Where is ..?")
+    rows = [row for row in rows if len(row) == 3]
+    faults.unless(len(rows) == QUESTIONS, MAP, f"{len(rows)} questions, of {QUESTIONS}")
+    for question, short, place in rows:
+        faults.unless(short and re.search(r"[`(#][\w./#-]+", place), MAP, f"no answer, or no file: {question}")
+
+
+def check_groups(map_of_crates, faults):
+    """The name of each crate tells its group: by its beginning or its end, or since it was given and is listed."""
+    marks = {row[0]: re.findall(r"`(\w+)`", row[1] + row[2]) for row in map_of_crates.rows("The map") if len(row) == 3}
+    group = None
+    for line in map_of_crates.section_below("The crates"):
+        crate = re.match(r"\| `(\w+)` \|", line)
+        group = line.strip("# ").lower() if line.startswith("### ") else group
+        if crate and group:
+            told = [mark for mark in marks.get(group, []) if crate[1] == mark or mark.endswith("_") and crate[1].startswith(mark)
+                    or mark.startswith("_") and crate[1].endswith(mark)]
+            faults.unless(told, MAP, f"the name {crate[1]} doesn't tell the group {group}")
+
+
+def check_contents(document, faults):
+    """A long document opens with links to all its sections."""
+    opening, _, _ = document.text.partition("\n## ")
+    for line in document.lines:
+        if line.startswith("## "):
+            anchor = re.sub(r"[^\w -]", "", line.strip("# ").lower()).replace(" ", "-")
+            faults.unless(f"(#{anchor})" in opening, document.path, f"its contents lack {line.strip('# ')}")
+
+
+def check_definitions(document, faults):
+    """Each word of an entry of the definitions stands in one of the files that the entry names."""
+    for entry in re.split(r"\n(?=- \*\*|\n|#)", document.text):
+        told = re.match(r"- \*\*(.+?)\*\*\s*\(([^)]*)\)", entry.replace("\n", " "))
+        folder, text = "", ""
+        for path in re.findall(r"`([\w/]+\.antt)`", entry) if told else []:
+            folder = os.path.dirname(path) or folder
+            places = [f"crates/{folder}/{os.path.basename(path)}", f"crates/{folder.split('/')[0]}/proofs/{os.path.basename(path)}"]
+            place = next(filter(os.path.exists, places), None)
+            faults.unless(place, document.path, f"{told[1]}: no file {path}")
+            if place:
+                with open(place, encoding="utf-8") as file:
+                    text += file.read()
+        for word in re.findall(r"`(\w+)`", told[2]) if told else []:
+            faults.unless(re.search(rf"\b{word}\b", text), document.path, f"{told[1]}: {word} stands in none of its files")
 
 
 def signatures(text, name):
@@ -167,6 +216,11 @@ def main():
     check_lengths(readme, faults)
     check_recipes(Document(MAP), faults)
     check_map(Document(MAP), crates, faults)
+    check_questions(Document(MAP), faults)
+    check_groups(Document(MAP), faults)
+    check_definitions(Document("docs/DEFINITIONS.md"), faults)
+    for path in WITH_CONTENTS:
+        check_contents(Document(path), faults)
     for path in PROMISES:
         check_promises(Document(path), faults)
     check_names(documents, tracked, faults)
