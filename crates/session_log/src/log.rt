@@ -1,7 +1,7 @@
 //! The history as it is written: entries are added in room that was made before, so that
 //! nothing is half written down.
 ghost use Rattle.std.specs.Prelude.{◌≡◌, ◌+◌, ◌-◌, ◌^◌, ◌≤◌, ◌<◌, [], ◌∷◌};
-ghost use Rattle.std.specs.Prelude.{length, IfOk, OnOk, OnErr, reverse};
+ghost use Rattle.std.specs.Prelude.{length, IfOk, IsOk, OnOk, OnErr, reverse};
 ghost use Rattle.session_log.specs.Logs.{begun_by, entries_with_event, jobs_begun, plain_entry};
 ghost use Rattle.session_log.specs.Told.{end_news as news_of, is_end_or_look as ends_or_looks};
 ghost use Rattle.session_log.specs.Told.{is_report as does_report, news_left as last_news};
@@ -49,12 +49,14 @@ impl Log {
         })
     }
 
-    /// Makes room for this many more. There is none where the history would have more than 2^56 entries.
+    /// Makes room for this many more. It is refused only where the room isn't there yet: for want of memory, or
+    /// since the history would have more than 2^56 entries.
     pub fn reserve(&mut self, count: usize) -> Result<(), NoMemory>
         ensures same { self.new.newest ≡ self.old.newest }
         ensures room { OnOk result (count ≤ self.new.spare) }
         ensures bounded { OnOk result (length self.new.newest + count ≤ 2 ^ 56) }
         ensures kept { self.old.spare ≤ self.new.spare }
+        ensures succeeds { count ≤ self.old.spare → IsOk result }
     {
         self.entries.reserve(count)?;
         Ok(())

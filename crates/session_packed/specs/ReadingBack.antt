@@ -42,49 +42,46 @@ abbrev pub step_entry : ℕ → Did → ℕ → ℕ → Entry
 step_entry job did calls faults =
     record { seat = 0; calls = calls; faults = faults; shown = 0; what = Step job did }
 
--- the newest of the entries that stand whole, before these entries
-abbrev pub whole_before : List WholeEntry → List Entry → List Entry
-whole_before [] older = older
-whole_before (whole ∷ more) older = whole.entry ∷ older
+-- the newest of the entries that stand whole, alone
+abbrev pub whole_at : List WholeEntry → List Entry
+whole_at [] = []
+whole_at (whole ∷ more) = whole.entry ∷ []
 
--- the entry of which this is kept, before these entries
-abbrev pub entry_before : Delta → State → List Entry → List Entry
-entry_before (Named job shared tail calls kind) s older =
-    step_entry job (did_to kind (route_of s.path)) s.calls s.faults ∷ older
-entry_before (Chunk job count calls) s older = step_entry job (told.Chunk count) s.calls s.faults ∷ older
-entry_before (Barrier job calls) s older = step_entry job told.Barrier s.calls s.faults ∷ older
-entry_before Whole s older = whole_before s.wholes older
+-- the entry of which this is kept, alone
+abbrev pub entry_at : Delta → State → List Entry
+entry_at (Named job shared tail calls kind) s =
+    step_entry job (did_to kind (route_of s.path)) s.calls s.faults ∷ []
+entry_at (Chunk job count calls) s = step_entry job (told.Chunk count) s.calls s.faults ∷ []
+entry_at (Barrier job calls) s = step_entry job told.Barrier s.calls s.faults ∷ []
+entry_at Whole s = whole_at s.wholes
+
+-- the state before so many calls
+abbrev pub without_calls : ℕ → State → State
+without_calls calls s = state s.tails s.wholes s.path (s.calls - calls) s.faults
+
+-- the state before a path was named: the one before it shares so many bytes with it, and goes on with the
+-- last bytes that are kept of paths, so many
+abbrev pub without_path : ℕ → ℕ → State → State
+without_path shared tail s =
+    state (take (length s.tails - tail) s.tails) s.wholes
+    (take shared s.path ++ drop (length s.tails - tail) s.tails) s.calls s.faults
 
 -- the state before an entry that stands whole
 abbrev pub without_whole : List WholeEntry → State → State
 without_whole [] s = s
-without_whole (whole ∷ more) s =
-    record { tails = s.tails; wholes = more; path = s.path; calls = whole.calls; faults = whole.faults }
-
--- the path before: it shares so many bytes with the newest, and goes on with the last bytes that are kept
-abbrev pub path_before : ℕ → ℕ → State → List ℕ
-path_before shared tail s = take shared s.path ++ drop (length s.tails - tail) s.tails
+without_whole (whole ∷ more) s = state s.tails more s.path whole.calls whole.faults
 
 -- the state before the entry of which this is kept
 abbrev pub state_before : Delta → State → State
-state_before (Named job shared tail calls kind) s =
-    record {
-      tails = take (length s.tails - tail) s.tails;
-      wholes = s.wholes;
-      path = path_before shared tail s;
-      calls = s.calls - calls;
-      faults = s.faults;
-    }
-state_before (Chunk job count calls) s =
-    record { tails = s.tails; wholes = s.wholes; path = s.path; calls = s.calls - calls; faults = s.faults }
-state_before (Barrier job calls) s =
-    record { tails = s.tails; wholes = s.wholes; path = s.path; calls = s.calls - calls; faults = s.faults }
+state_before (Named job shared tail calls kind) s = without_calls calls (without_path shared tail s)
+state_before (Chunk job count calls) s = without_calls calls s
+state_before (Barrier job calls) s = without_calls calls s
 state_before Whole s = without_whole s.wholes s
 
 -- the entries of which these are kept, the newest first
 abbrev pub entries_in : List Delta → State → List Entry
 entries_in [] s = []
-entries_in (delta ∷ older) s = entry_before delta s (entries_in older (state_before delta s))
+entries_in (delta ∷ older) s = entry_at delta s ++ entries_in older (state_before delta s)
 
 -- there is one that stands whole
 abbrev pub IsSomeWhole : List WholeEntry → Type 0

@@ -1,7 +1,7 @@
 -- What is met on a walk over the entries.
 use Rattle.session_entries.specs.declared.history.Entry.{Entry}
-use Rattle.session_packed.specs.declared.walk.Met.{Met}
-use Rattle.session_packed.specs.declared.walk.Met.TheVariants.{Whole, Made}
+use Rattle.session_packed.specs.declared.met.Met.{Met}
+use Rattle.session_packed.specs.declared.met.Met.TheVariants.{Whole, Made}
 
 -- the entry
 abbrev pub entry_in : Met → Entry

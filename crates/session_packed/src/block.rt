@@ -1,10 +1,12 @@
-//! Some entries in one piece of memory that never grows: where it is full, the next one is begun.
-ghost use Rattle.std.specs.Prelude.{◌≡◌, ◌+◌, ◌≤◌, ◌<◌, ◌^◌, true, false, [], ◌∷◌, IfOk, OnOk, length};
+//! Some entries in one piece of memory: where it is full the next one is begun, and it grows only where there
+//! is no memory for that one.
+ghost use Rattle.std.specs.Prelude.{◌≡◌, ◌+◌, ◌≤◌, ◌<◌, ◌^◌, true, false, [], ◌∷◌, IfOk, IsOk, OnOk, length};
 ghost use Rattle.job_reports.specs.declared.report.Did.TheVariants.{Chunk, Barrier};
 ghost use Rattle.session_packed.specs.ReadingBack.{did_to, step_entry};
 ghost use Rattle.session_packed.specs.Shorts.{entry_of as short_entry};
 
 use crate::delta::{Delta, PathKind, WholeEntry};
+use crate::reader::Reader;
 use crate::short::{Short, ShortDid, keep_difference, short_of};
 use crate::walk::BlockWalk;
 use mc_text::{NoMemory, Path, Text};
@@ -109,6 +111,7 @@ impl Block {
         ensures same { self.new.newest ≡ self.old.newest }
         ensures room { OnOk result (count ≤ self.new.spare) }
         ensures kept { self.old.spare ≤ self.new.spare }
+        ensures succeeds { count ≤ self.old.spare → IsOk result }
     {
         self.deltas.reserve(count)?;
         self.wholes.reserve(count)?;
@@ -122,14 +125,14 @@ impl Block {
         let text = self.path.as_str();
         let mut path = Vec::new(alloc);
         path.extend_from_slice(text.as_bytes())?;
-        Ok(BlockWalk::new(
-            self.deltas.as_slice(),
+        let reader = Reader::new(
             self.tails.as_slice(),
             self.wholes.as_slice(),
             path,
             self.calls,
             self.faults,
-        ))
+        );
+        Ok(BlockWalk::new(self.deltas.as_slice(), reader))
     }
 
     /// Adds an entry in room that there is.

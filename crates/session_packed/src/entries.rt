@@ -1,6 +1,8 @@
 //! The entries of a history, in blocks: one more block is begun where the newest is full, so that growing
 //! copies nothing that stands.
-ghost use Rattle.std.specs.Prelude.{◌≡◌, ◌+◌, ◌-◌, ◌≤◌, ◌<◌, ◌^◌, [], ◌∷◌, length, reverse, IfOk, OnOk};
+ghost use Rattle.std.specs.Prelude.{◌≡◌, ◌+◌, ◌-◌, ◌≤◌, ◌<◌, ◌^◌, ◌++◌, [], ◌∷◌};
+ghost use Rattle.std.specs.Prelude.{length, reverse, IfOk, IsOk, OnOk};
+ghost use Rattle.session_packed.specs.Blocks.{entries_of};
 
 use crate::block::Block;
 use crate::walks::{NewestFirst, OldestFirst};
@@ -72,21 +74,21 @@ impl PackedEntries {
         self.count
     }
 
-    /// Makes room for this many more. There is none where there would be more than 2^56 entries.
+    /// Makes room for this many more. It is refused only where the room isn't there yet: for want of memory, or
+    /// since there would be more than 2^56 entries.
     pub fn reserve(&mut self, count: usize) -> Result<(), NoMemory>
         ensures same { self.new.newest ≡ self.old.newest }
         ensures room { OnOk result (count ≤ self.new.spare) }
         ensures bounded { OnOk result (length self.new.newest + count ≤ 2 ^ 56) }
         ensures kept { self.old.spare ≤ self.new.spare }
+        ensures succeeds { count ≤ self.old.spare → IsOk result }
     {
         if self.count.saturating_add(count) > MOST_ENTRIES {
             return Err(NoMemory);
         }
         if self.newest.is_full(count) {
-            self.older.reserve(1)?;
-            let fresh = self.newest.next(self.alloc, count)?;
-            let full = mem::replace(&mut self.newest, fresh);
-            let _kept = self.older.push(full);
+            // Where there is no memory for one more, the newest block may still have the room.
+            let _begun = begin_block(self.alloc, &mut self.older, &mut self.newest, count);
         }
         self.newest.reserve(count)?;
         Ok(())
@@ -116,4 +118,23 @@ impl PackedEntries {
     {
         OldestFirst::new(alloc, self.older.as_slice(), &self.newest)
     }
+}
+
+/// Begins a block for so many entries behind the newest one, with at least as much room. Without memory for
+/// it all stays as it is.
+fn begin_block(
+    alloc: Global,
+    older: &mut Vec<Block>,
+    newest: &mut Block,
+    count: usize,
+) -> Result<(), NoMemory>
+    ensures same { newest.new.newest ++ entries_of (reverse older.new.items)
+        ≡ newest.old.newest ++ entries_of (reverse older.old.items) }
+    ensures kept { newest.old.spare ≤ newest.new.spare }
+{
+    older.reserve(1)?;
+    let fresh = newest.next(alloc, count)?;
+    let full = mem::replace(newest, fresh);
+    let _kept = older.push(full);
+    Ok(())
 }

@@ -4,10 +4,12 @@
 mod block;
 mod delta;
 mod entries;
+mod met;
+mod reader;
 mod short;
 mod walk;
 mod walks;
 
 pub use entries::PackedEntries;
-pub use walk::Met;
+pub use met::Met;
 pub use walks::{NewestFirst, OldestFirst};

@@ -4,7 +4,8 @@ ghost use Rattle.session_packed.specs.Blocks.{entries_of, entries_up};
 ghost use Rattle.session_packed.specs.Walks.{entry_in};
 
 use crate::block::Block;
-use crate::walk::{BlockWalk, Met};
+use crate::met::Met;
+use crate::walk::BlockWalk;
 use mc_text::NoMemory;
 use std::alloc::Global;
 use std::marker::Model;
