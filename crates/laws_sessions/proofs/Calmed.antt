@@ -42,7 +42,7 @@ use Rattle.laws_sessions.specs.Traces.{EventLeads, IsTraced, Stand, StepLeads, W
 use Rattle.laws_sessions.proofs.Beginnings.{goes_then}
 use Rattle.job_reports.specs.Jobs.{folder_changed}
 use Rattle.laws_sessions.proofs.Sources.{folder_is as item_folder}
-use Rattle.laws_sessions.proofs.Done.{IsFound, found_moment, same_item}
+use Rattle.laws_sessions.proofs.Done.{IsFound, found_moment}
 use Rattle.laws_sessions.proofs.Finished.{AreTidy, IsTidyJob, traced_tidy}
 use Rattle.laws_sessions.proofs.Prefixes.{told_of}
 use Rattle.laws_sessions.proofs.Going.{only_job}
@@ -54,7 +54,7 @@ use Rattle.laws_sessions.proofs.Moments.{prefix_is, log_of, traced_count}
 use Rattle.laws_sessions.proofs.ModesStay.{event_still as mode_still}
 use Rattle.laws_sessions.proofs.Owing.{apart_from, owed_apart, owed_modes, owed_names}
 use Rattle.laws_sessions.proofs.Unchanged.{has_begun, is_going}
-use Rattle.laws_sessions.proofs.Reports.{HasLive, JobsKnow}
+use Rattle.laws_sessions.proofs.Reports.{HasLive, JobsKnow, told_item}
 use Rattle.laws_sessions.proofs.TreeKnown.{ItemHas, TreeKnown, is_over}
 use Rattle.laws_sessions.proofs.Staying.{doubting, event_still, kept_doubting, unsaid, work_doubting}
 use Rattle.laws_sessions.proofs.Stepped.{StepRan, said_after}
@@ -165,7 +165,7 @@ module _ (opening : CallLog) (tree : IsTree (current opening)) (settled : all_se
     none_owed = works.settled goes.0 start.0;
     no_part = start.1;
     folder_is =
-        let same = same_item opening tree settled end e older job (live_jobs older) r.part h.item (subst (λ js. HasLive (live_jobs older) js r.part) jobs_is r.live)
+        let same = told_item job (live_jobs older) r.part h.item (subst (λ js. HasLive (live_jobs older) js r.part) jobs_is r.live)
         (subst (λ n. live_item n (live_jobs older) ≡ Some h.item) (sym id_is) h.its) in
         h.within ∙ (ap folder_changed (sym same) ∙ item_folder job.work);
   }
@@ -295,6 +295,6 @@ module _ (opening now : CallLog) (newest : List Entry) (stand : Stand) (tree : I
 
 pub calm_law : CalmLaw
 calm_law opening now newest stand tree settled traced = record {
-  names = λ e older folder path h moment waits. calms_names opening now newest stand tree settled traced e older folder path h moment waits;
-  modes = λ e older folder path h moment unnamed waits. calms_modes opening now newest stand tree settled traced e older folder path h moment unnamed waits;
+  names = λ e older folder path h moment not_others waits. calms_names opening now newest stand tree settled traced e older folder path h moment waits;
+  modes = λ e older folder path h moment not_others unnamed waits. calms_modes opening now newest stand tree settled traced e older folder path h moment unnamed waits;
 }

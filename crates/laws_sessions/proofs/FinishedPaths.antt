@@ -1,4 +1,4 @@
--- A finished job has left no path of its own in doubt.
+-- A finished job has left no path in its folders in doubt.
 use Rattle.std.proofs.Common.{◌≡◌, ◌⊎◌, ℕ, Bool, true, false, not, List, [], ◌∷◌, ◌++◌, refl, sym, ◌∙◌, ap, subst, inl, inr, Option, Some, None}
 use Rattle.std.specs.Prelude.{◌||◌}
 use Rattle.std.specs.Option.{option_map_or}
@@ -40,8 +40,7 @@ use Rattle.copy_move.specs.Settling.{WorkLeaves, changed_folder, is_own}
 use Rattle.job_reports.specs.Paths.{folder_of}
 use Rattle.copy_move.specs.JobStepReports.{LeavesDirty, Walks, WalksOn}
 use Rattle.laws_sessions.specs.Doubt.{IsMountInDoubt, is_unsettled, name_waits, node_waits, way_waits}
-use Rattle.laws_sessions.specs.Owed.{FinishedLaw, IsNoMatter, is_own_path}
-use Rattle.laws_sessions.specs.Staying.{may_change}
+use Rattle.laws_sessions.proofs.OwnFolders.{IsNoMatter, is_own_path, may_change}
 use Rattle.session_entries.specs.Named.{has_changed, named_parts}
 use Rattle.laws_sessions.specs.Traces.{IsTraced, IsUnclaimed, Stand, WorkLeads}
 use Rattle.tree_trait.specs.Refusals.{is_folder}
@@ -302,8 +301,10 @@ moved_left told dirty dirty_after marks log now job new part m is on knows tidy 
     let tells : TellsOn GoesOn job (Ended Finished part) new = subst (λ x. TellsOn x job (Ended Finished part) new) on works.tells in
     (known.source, (known.target, (done_moving m.stage (move_done job.replies m tells.0 part (subst (λ x. WorkTells job.replies x (Ended Finished part) tells.0) is tells.1)) renamed, known.moved refl renamed)))
 
-pub finished_law : FinishedLaw
-finished_law opening now after newest stand dirty job new part path tree settled traced jobs_is works changed own =
+pub folders_left : (opening now after : CallLog) (newest : List Entry) (stand : Stand) (dirty : List Route) (job new : Running) (part : Option Route) (path : Route) → IsTree (current opening) → all_settled opening.changes ≡ true → IsTraced opening newest stand now
+    → stand.jobs ≡ job ∷ [] → WorkLeads job (Ended Finished part) new stand.dirty dirty now after → has_changed job.id newest ≡ true → is_own_path job.work path ≡ true
+    → (way_waits now path ≡ false) × ((Among (named_parts newest) path → ⊥) → (IsNoMatter job.work now path → ⊥) → is_unsettled now path ≡ false)
+folders_left opening now after newest stand dirty job new part path tree settled traced jobs_is works changed own =
     left_by opening now newest stand path tree settled traced job.work firm.sure left.2 (tidy.sure changed) (tidy.calm changed) (whole job.work refl) own
   where
     r : IsReached opening newest stand now

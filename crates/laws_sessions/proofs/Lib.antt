@@ -37,6 +37,7 @@ pub mod Filling
 pub mod Finished
 pub mod FinishedExample
 pub mod FinishedMoves
+pub mod FinishedOwn
 pub mod FinishedPaths
 pub mod FolderExample
 pub mod FolderExampleSteps
@@ -94,6 +95,8 @@ pub mod OpenFolders
 pub mod OpenTargets
 pub mod OwedModes
 pub mod Owing
+pub mod OwnFolders
+pub mod OwnParts
 pub mod PathsBelow
 pub mod PartMade
 pub mod PartNodes

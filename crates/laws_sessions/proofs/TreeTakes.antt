@@ -30,7 +30,7 @@ use Rattle.copy_job.specs.Marks.{folder_worked, is_dirty_after, is_left_dirty, w
 use Rattle.copy_job.specs.Standing.{SubtreeCopying}
 use Rattle.copy_move.specs.declared.run.Course.TheVariants.{GoesOn}
 use Rattle.copy_move.specs.declared.work.Work.TheVariants.{Copy}
-use Rattle.laws_sessions.specs.Staying.{may_change}
+use Rattle.laws_sessions.proofs.OwnFolders.{may_change}
 use Rattle.laws_sessions.proofs.BareTargets.{free_or_bare}
 use Rattle.laws_sessions.proofs.FileMoves.{MoveCalls, taken_moves}
 use Rattle.laws_sessions.proofs.Calming.{stopped_is}

@@ -8,19 +8,23 @@ use Rattle.tree_trait.specs.Shape.{IsTree}
 use Rattle.job_reports.specs.declared.report.Did.{Did}
 use Rattle.job_reports.specs.declared.report.Did.TheVariants.{Ended}
 use Rattle.job_reports.specs.declared.report.Ending.TheVariants.{Finished}
+use Rattle.job_reports.specs.Jobs.{ItemOfJob}
 use Rattle.job_reports.specs.Paths.{folder_of}
 use Rattle.session_entries.specs.declared.history.Entry.{Entry}
+use Rattle.session_entries.specs.LiveJobs.{live_item, live_jobs}
 use Rattle.session_entries.specs.Named.{has_changed, named_parts}
 use Rattle.copy_move.specs.declared.run.Course.TheVariants.{GoesOn}
 use Rattle.copy_move.specs.declared.work.Work.{Work}
-use Rattle.copy_move.specs.declared.work.Work.TheVariants.{Move, SetMode}
+use Rattle.copy_move.specs.declared.work.Work.TheVariants.{Move}
 use Rattle.copy_move.specs.Jobs.{Running, is_fresh}
 use Rattle.copy_move.specs.Settling.{changed_folder, is_own}
 use Rattle.copy_move.specs.JobStepReports.{RunStep, step_made}
 use Rattle.laws_sessions.specs.Traces.{IsUnclaimed, IsTraced, Stand, StepLeads, WorkLeads, unless_ended}
-use Rattle.laws_sessions.specs.Doubt.{IsJoined, IsMountInDoubt, is_unsettled}
+use Rattle.laws_sessions.specs.Doubt.{IsJoined, is_unsettled}
 use Rattle.laws_sessions.specs.Doubt.{name_waits, node_waits, way_waits}
 use Rattle.laws_sessions.specs.ApartFolders.{IsApart}
+use Rattle.laws_sessions.specs.OwnPaths.{IsOwnPath}
+use Rattle.laws_sessions.specs.Staying.{IsNoMatterOf}
 
 -- this folder is dirty, or one is for which and this one a renaming waits
 abbrev pub IsOwed : List Route → CallLog → Route → Type 0
@@ -62,29 +66,17 @@ pub record FirstChangeLaw : Type 0 where
   pub modes : FirstChange (λ job path log newest now. (Among (named_parts newest) path → ⊥) → node_waits now
       path ≡ true → (waits_in job.work path ≡ true) ⊎ IsApart log (changed_folder job.work) path)
 
--- a path of a job's own: one in a folder of its own, of a copy also one below its target, or the thing
--- to which it gives a mode
-abbrev pub is_own_path : Work → Route → Bool
-is_own_path (SetMode s) path = same_path path s.path
-is_own_path work path = is_own work (folder_of path)
-
--- a mount in doubt is no matter of a job that changes names around it
-abbrev pub IsNoMatter : Work → CallLog → Route → Type 0
-IsNoMatter (SetMode s) log path = ⊥
-IsNoMatter work log path = IsMountInDoubt log path
-
 -- A job that has changed something, and whose step is that it is finished, has left no path of its own
--- in doubt: in the folder that holds what it placed, made or removed, of a deletion in each that it
--- deleted or kept, or the thing to which it gave a mode. No name waits there, nor what stands there,
--- parts and mounts in doubt aside.
+-- in doubt: no name waits there, nor what stands there, parts and mounts in doubt aside.
 abbrev pub FinishedLaw : Type 0
 FinishedLaw = (opening now after : CallLog) (newest : List Entry) (stand : Stand) (dirty : List Route)
-    (job new : Running) (part : Option Route) (path : Route)
+    (job new : Running) (part : Option Route) (item : ItemOfJob) (path : Route)
     → IsTree (current opening) → all_settled opening.changes ≡ true → IsTraced opening newest stand now
     → stand.jobs ≡ job ∷ [] → WorkLeads job (Ended Finished part) new stand.dirty dirty now after
-    → has_changed job.id newest ≡ true → is_own_path job.work path ≡ true
+    → has_changed job.id newest ≡ true → live_item job.id (live_jobs newest) ≡ Some item
+    → IsOwnPath job.id item newest path
     → (way_waits now path ≡ false) × ((Among (named_parts newest) path → ⊥)
-    → (IsNoMatter job.work now path → ⊥) → is_unsettled now path ≡ false)
+    → (IsNoMatterOf item now path → ⊥) → is_unsettled now path ≡ false)
 
 -- The machine's own step is one of which such a history tells.
 abbrev pub StepLaw : Type 0

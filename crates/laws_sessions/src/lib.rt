@@ -33,13 +33,14 @@ pub fn what_a_first_change_leaves_in_doubt()
 {}
 
 /// The same in the words of the history alone: where a report of a job's first change for one of its
-/// sources stands, nothing on its mount is in doubt but what that report names.
+/// sources stands, nothing that an ended job left on its mount is in doubt, nor anything else but what that
+/// report names.
 pub fn what_a_first_change_calms()
     ensures { CalmLaw }
 {}
 
-/// A job that may report that it is finished, and has changed something, has left nothing in a folder of
-/// its own that isn't on the disk.
+/// A job that may report that it is finished, and has changed something, has left nothing that isn't on the
+/// disk at a path of its own: one that its source touches, or a part that it named.
 pub fn what_a_finished_job_leaves()
     ensures { FinishedLaw }
 {}
@@ -50,8 +51,8 @@ pub fn what_stays_on_the_disk()
     ensures { StaysLaw }
 {}
 
-/// What a job that is finished did in its folders stays done: no crash at a later moment brings back what a
-/// path held before, until an entry names that path.
+/// What a job that is finished did at paths of its own stays done: no crash at a later moment brings back
+/// what a path held before, until an entry names that path.
 pub fn what_a_finished_job_did_stays()
     ensures { FinishedStaysLaw }
 {}
