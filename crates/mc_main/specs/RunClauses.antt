@@ -39,8 +39,9 @@ pub record KeepsTree (opening now : CallLog) (newest : List Entry) : Type 0 wher
   -- Where a job is done with one of its sources, all that it was to do with it is done, but for what it
   -- passed over: a copy stands of all that stands at the source, what was moved stands at its target, and not
   -- at its source, nothing stands that was to be removed, and what was to be made, or given a mode, is so.
-  -- All else is as it was where the job began with it. So at its end all is done with all its sources, where
-  -- no later one touches what concerns an earlier one.
+  -- All else is as it was where the job began with it, but for what another job named meanwhile: no report
+  -- of the job changes it. So at its end all is done with all its sources, where no later one touches what
+  -- concerns an earlier one.
   pub outcome : IsOutcomeRun opening now newest
   -- A job asks what is to become of a file or a link at the target of its copy or its move where no answer
   -- decides that, keeps it where one says so, and begins a part beside it, or moves something onto it, only
