@@ -1,29 +1,23 @@
--- A finished job has left no path of its own in doubt: what it touches, and the parts that it named, lie in folders in which it may change names.
-use Rattle.std.proofs.Common.{◌≡◌, ◌⊎◌, Bool, true, false, List, [], ◌∷◌, ◌++◌, refl, sym, ◌∙◌, ap, subst, inl, inr, Option, Some}
+-- A finished job has left no path of its own in doubt: neither what it touches nor the parts that it named.
+use Rattle.std.proofs.Common.{◌≡◌, true, false, [], ◌∷◌, ◌++◌, sym, subst, inl, inr}
 use Rattle.std.specs.Prelude.{◌||◌}
-use Rattle.std.proofs.lemmas.Bool.{false≢true, or_cases, or_left, or_right}
+use Rattle.std.proofs.lemmas.Bool.{false≢true, or_left, or_right}
 use Rattle.mc_text.specs.Routes.{Route, is_prefix, same_path}
-use Rattle.tree_trait.specs.Shape.{IsTree}
-use Rattle.tree_trait.specs.Change.{CallLog, current}
-use Rattle.tree_trait.specs.CrashImages.{all_settled}
+use Rattle.tree_trait.specs.Change.{CallLog}
 use Rattle.tree_trait.proofs.Visible.{same_path-self, same_path-true}
-use Rattle.job_reports.specs.Jobs.{ItemOfJob, Copies, Moves, Removes, Makes, MakesLink, Sets, RemovesEmptied}
 use Rattle.job_reports.specs.Paths.{folder_of}
 use Rattle.make_job.specs.declared.new_thing.NewThing.{NewThing}
 use Rattle.make_job.specs.declared.new_thing.NewThing.TheVariants as thing
-use Rattle.session_entries.specs.declared.history.Entry.{Entry}
 use Rattle.session_entries.specs.LiveJobs.{live_jobs}
 use Rattle.copy_move.specs.declared.work.Work.{Work}
 use Rattle.copy_move.specs.declared.work.Work.TheVariants.{Copy, Delete, Make, Move, SetMode, RemoveEmptied}
-use Rattle.copy_move.specs.Jobs.{Running}
 use Rattle.laws_sessions.specs.Owed.{FinishedLaw}
 use Rattle.laws_sessions.specs.OwnPaths.{IsOwnPath, has_named_part}
 use Rattle.laws_sessions.specs.Staying.{IsNoMatterOf}
 use Rattle.laws_sessions.specs.Touched.{touches}
-use Rattle.laws_sessions.specs.Traces.{IsTraced, Stand}
-use Rattle.laws_sessions.proofs.FinishedPaths.{folders_left}
+use Rattle.laws_sessions.proofs.FinishedPaths.{paths_left}
 use Rattle.laws_sessions.proofs.Histories.{traced_reached}
-use Rattle.laws_sessions.proofs.OwnFolders.{IsNoMatter, is_own_path, may_change, may_change_path}
+use Rattle.laws_sessions.proofs.OwnFolders.{IsNoMatter, is_own_path, may_hold_parts}
 use Rattle.laws_sessions.proofs.OwnParts.{AreOwn, parts_own}
 use Rattle.laws_sessions.proofs.PathsBelow.{below_way}
 use Rattle.laws_sessions.proofs.Reports.{HasLive, told_item}
@@ -41,41 +35,33 @@ in_or_below top path h = let w = below_way top path h in by w.0 w.1
 beside_it : (made path : Route) → same_path path made ≡ true → same_path (folder_of path) (folder_of made) ≡ true
 beside_it made path h = subst (λ q. same_path (folder_of path) (folder_of q) ≡ true) (same_path-true path made h) (same_path-self (folder_of path))
 
--- what a source touches lies there
-touched_there : (item : ItemOfJob) (path : Route) → touches item path ≡ true → may_change_path item path ≡ true
-touched_there (Copies source target) path h = in_or_below target path h
-touched_there (Moves source target) path h = elim (or_cases (is_prefix source path) (is_prefix target path) h) [
-  | inl from ↦ or_left _ _ (in_or_below source path from)
-  | inr to ↦ or_right _ _ (in_or_below target path to)
-]
-touched_there (Removes top) path h = in_or_below top path h
-touched_there (Makes made) path h = beside_it made path h
-touched_there (MakesLink made text) path h = beside_it made path h
-touched_there (Sets thing mode) path h = h
-touched_there (RemovesEmptied folder) path h = beside_it folder path h
-
-folder_there : (item : ItemOfJob) (path : Route) → may_change item (folder_of path) ≡ true → may_change_path item path ≡ true
-folder_there (Copies source target) path h = h
-folder_there (Moves source target) path h = h
-folder_there (Removes top) path h = h
-folder_there (Makes made) path h = h
-folder_there (MakesLink made text) path h = h
-folder_there (Sets thing mode) path h = absurd (false≢true h)
-folder_there (RemovesEmptied folder) path h = h
-
--- the same of the work, and of what is no matter of it
-own_of_work : (work : Work) (path : Route) → may_change_path (item_in work) path ≡ true → is_own_path work path ≡ true
-own_of_work (Copy c) path h = h
-own_of_work (Delete d) path h = h
-own_of_work (Make m) path h = by m.thing h
+-- what the source touches is the work's own
+touched_own : (work : Work) (path : Route) → touches (item_in work) path ≡ true → is_own_path work path ≡ true
+touched_own (Copy c) path h = in_or_below c.top.target path h
+touched_own (Delete d) path h = in_or_below d.path path h
+touched_own (Make m) path h = by m.thing h
   where
-    by : (new : NewThing) → may_change_path (making_item new m.path) path ≡ true → same_path (folder_of path) (folder_of m.path) ≡ true
-    by thing.Folder h = h
-    by (thing.Link text) h = h
-own_of_work (Move m) path h = h
-own_of_work (SetMode s) path h = h
-own_of_work (RemoveEmptied r) path h = h
+    by : (new : NewThing) → touches (making_item new m.path) path ≡ true → same_path (folder_of path) (folder_of m.path) ≡ true
+    by thing.Folder h = beside_it m.path path h
+    by (thing.Link text) h = beside_it m.path path h
+touched_own (Move m) path h = h
+touched_own (SetMode s) path h = h
+touched_own (RemoveEmptied r) path h = beside_it r.path path h
 
+-- and so is a part where it fills folders
+part_own : (work : Work) (path : Route) → may_hold_parts (item_in work) (folder_of path) ≡ true → is_own_path work path ≡ true
+part_own (Copy c) path h = h
+part_own (Delete d) path h = absurd (false≢true h)
+part_own (Make m) path h = by m.thing h
+  where
+    by : (new : NewThing) → may_hold_parts (making_item new m.path) (folder_of path) ≡ true → same_path (folder_of path) (folder_of m.path) ≡ true
+    by thing.Folder h = absurd (false≢true h)
+    by (thing.Link text) h = absurd (false≢true h)
+part_own (Move m) path h = absurd (false≢true h)
+part_own (SetMode s) path h = absurd (false≢true h)
+part_own (RemoveEmptied r) path h = absurd (false≢true h)
+
+-- what is no matter of the work
 no_matter : (work : Work) (log : CallLog) (path : Route) → IsNoMatter work log path → IsNoMatterOf (item_in work) log path
 no_matter (Copy c) log path h = h
 no_matter (Delete d) log path h = h
@@ -90,15 +76,15 @@ no_matter (RemoveEmptied r) log path h = h
 
 pub finished_law : FinishedLaw
 finished_law opening now after newest stand dirty job new part item path tree settled traced jobs_is works changed its own =
-    let left = folders_left opening now after newest stand dirty job new part path tree settled traced jobs_is works changed (own_of_work job.work path (subst (λ i. may_change_path i path ≡ true) (sym same) (there own))) in
+    let left = paths_left opening now after newest stand dirty job new part path tree settled traced jobs_is works changed (of_work own) in
     (left.0, λ unnamed none. left.1 unnamed (λ matter. none (subst (λ i. IsNoMatterOf i now path) same (no_matter job.work now path matter))))
   where
     same : item_in job.work ≡ item
     same = let r = traced_reached opening tree settled newest stand now traced in told_item job (live_jobs newest) r.part item (subst (λ js. HasLive (live_jobs newest) js r.part) jobs_is r.live) its
 
-    parts : (p : Route) → has_named_part job.id p newest ≡ true → may_change (item_in job.work) (folder_of p) ≡ true
+    parts : (p : Route) → has_named_part job.id p newest ≡ true → may_hold_parts (item_in job.work) (folder_of p) ≡ true
     parts = subst (λ js. AreOwn newest js) jobs_is (parts_own opening tree settled newest stand now traced)
 
-    there : IsOwnPath job.id item newest path → may_change_path item path ≡ true
-    there (inl touched) = touched_there item path touched
-    there (inr named) = folder_there item path (subst (λ i. may_change i (folder_of path) ≡ true) same (parts path named.0))
+    of_work : IsOwnPath job.id item newest path → is_own_path job.work path ≡ true
+    of_work (inl touched) = touched_own job.work path (subst (λ i. touches i path ≡ true) (sym same) touched)
+    of_work (inr named) = part_own job.work path (parts path named.0)

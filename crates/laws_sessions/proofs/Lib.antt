@@ -90,6 +90,7 @@ pub mod NameLaws
 pub mod NameMarks
 pub mod NameRuns
 pub mod NameSteps
+pub mod NameWaits
 pub mod Names
 pub mod OpenFolders
 pub mod OpenTargets

@@ -5,7 +5,7 @@ use Rattle.tree_trait.specs.Change.{CallLog}
 use Rattle.job_reports.specs.Paths.{folder_of}
 use Rattle.job_reports.specs.Jobs.{ItemOfJob, Copies, Moves, Removes, Makes, MakesLink, Sets, RemovesEmptied}
 use Rattle.copy_move.specs.declared.work.Work.{Work}
-use Rattle.copy_move.specs.declared.work.Work.TheVariants.{SetMode}
+use Rattle.copy_move.specs.declared.work.Work.TheVariants.{Move, SetMode}
 use Rattle.copy_move.specs.Settling.{is_own}
 use Rattle.laws_sessions.specs.Doubt.{IsMountInDoubt}
 
@@ -20,14 +20,20 @@ may_change (MakesLink path text) folder = same_path folder (folder_of path)
 may_change (Sets path mode) folder = false
 may_change (RemovesEmptied path) folder = same_path folder (folder_of path)
 
--- a path that a job may change: one in such a folder, or the thing to which it gives a mode
-abbrev pub may_change_path : ItemOfJob → Route → Bool
-may_change_path (Sets thing mode) path = same_path path thing
-may_change_path item path = may_change item (folder_of path)
+-- a folder in which a job may begin a part: where it copies, the one that holds the target, and those at and below that
+abbrev pub may_hold_parts : ItemOfJob → Route → Bool
+may_hold_parts (Copies source target) folder = same_path folder (folder_of target) || is_prefix target folder
+may_hold_parts (Moves source target) folder = false
+may_hold_parts (Removes path) folder = false
+may_hold_parts (Makes path) folder = false
+may_hold_parts (MakesLink path text) folder = false
+may_hold_parts (Sets path mode) folder = false
+may_hold_parts (RemovesEmptied path) folder = false
 
--- the same of the work
+-- a path of the work's own: what it moves, or gives a mode, else one in such a folder
 abbrev pub is_own_path : Work → Route → Bool
 is_own_path (SetMode s) path = same_path path s.path
+is_own_path (Move m) path = is_prefix m.pair.source path || is_prefix m.pair.target path
 is_own_path work path = is_own work (folder_of path)
 
 -- a mount in doubt is no matter of work that changes names around it

@@ -1,9 +1,9 @@
--- The parts that a job named, of the source at which it is, stand in folders in which it may change names.
-use Rattle.std.proofs.Common.{◌≡◌, ◌⊎◌, ℕ, Bool, true, false, ◌||◌, List, [], ◌∷◌, refl, sym, ◌∙◌, ap, subst, inl, inr, Option, Some, None}
+-- The parts that a job named, of the source at which it is, stand where it copies to.
+use Rattle.std.proofs.Common.{◌≡◌, ◌⊎◌, ℕ, Bool, true, false, List, [], ◌∷◌, refl, sym, ◌∙◌, ap, subst, inl, inr, Option, Some, None}
 use Rattle.std.specs.Prelude.{◌==◌, ◌&&◌, if◌then◌else◌, map}
 use Rattle.std.specs.Option.{option_map_or}
 use Rattle.std.proofs.lemmas.Bool.{and_parts, both_ways, eq-eqb, false≢true}
-use Rattle.mc_text.specs.Routes.{Route, same_path}
+use Rattle.mc_text.specs.Routes.{Route}
 use Rattle.tree_trait.specs.declared.file_system.FileSystem.{FileSystem}
 use Rattle.tree_trait.specs.Shape.{IsTree}
 use Rattle.tree_trait.specs.Change.{CallLog, current}
@@ -12,7 +12,6 @@ use Rattle.tree_trait.proofs.Visible.{same_path-true}
 use Rattle.laws_crash.specs.Guarded.{Marks}
 use Rattle.job_reports.specs.declared.report.Did.{Did}
 use Rattle.job_reports.specs.declared.report.Did.TheVariants.{Began, Chunk, Placed, Removed, Made, Set, Kept, Skipped, Cleaned, Barrier, Asked, Merges, Moved, Troubled, Ended}
-use Rattle.job_reports.specs.declared.job.Job.{Job}
 use Rattle.job_answers.specs.declared.replies.Replies.{Replies}
 use Rattle.job_reports.specs.Jobs.{Copies}
 use Rattle.job_reports.specs.Paths.{folder_of}
@@ -52,7 +51,7 @@ use Rattle.laws_sessions.proofs.JobKnows.{WorkKnows}
 use Rattle.laws_sessions.proofs.JobLeads.{work_leads}
 use Rattle.laws_sessions.proofs.Knowing.{HistoryFacts, IsKept}
 use Rattle.laws_sessions.proofs.KnownParts.{FileKnows, StageKnows}
-use Rattle.laws_sessions.proofs.OwnFolders.{may_change}
+use Rattle.laws_sessions.proofs.OwnFolders.{may_hold_parts}
 use Rattle.laws_sessions.proofs.Prefixes.{told_of}
 use Rattle.laws_sessions.proofs.Reports.{JobsKnow, with_one}
 use Rattle.laws_sessions.proofs.Sources.{item_in, tells_same}
@@ -61,7 +60,7 @@ use Rattle.laws_sessions.proofs.Tidy.{changed_by}
 use Rattle.laws_sessions.proofs.AtWork.{ItemKnown}
 use Rattle.laws_sessions.proofs.TreeMachine.{skip_says}
 use Rattle.laws_sessions.proofs.TreeKnown.{ItemHas, TreeGoes, TreeKnown, is_over}
-use Rattle.laws_sessions.proofs.Turns.{Turned, one_turned, turned_id, turned_to}
+use Rattle.laws_sessions.proofs.Turns.{one_turned, turned_id, turned_to}
 
 -- a part that stands lies beside the target of the file or the link at work
 module _ (told : HistoryFacts) (dirty : List Route) (marks : Marks) (s : FileSystem) (course : Course) (part : Route) (is : told.part ≡ Some part) where
@@ -100,7 +99,7 @@ began_workable free replies old new part calls dirty dirty_after before after f0
       | inr troubled ↦ absurd (let e = troubled.1 in let f : ⊥ = cc in f)
     ]
 
--- A part that a step of the job begins stands in a folder in which it may change names.
+-- A part that a step of the job begins stands in a folder that it fills.
 module _ (told : HistoryFacts) (dirty dirty_after : List Route) (marks : Marks) (log now : CallLog) (kept : IsKept told dirty marks log) (job new : Running) (part : Route) (knows : WorkKnows told dirty marks log job.course job.work)
     (works : WorkLeads job (Began part) new dirty dirty_after log now) where
   abbrev said : HistoryFacts
@@ -113,13 +112,13 @@ module _ (told : HistoryFacts) (dirty dirty_after : List Route) (marks : Marks) 
   come = work_leads told dirty dirty_after marks log now kept job new (Began part) knows works
 
   of_copy : (c next : SubtreeCopying) (m : Marks) (calls f0 f1 : ℕ) → TreeKnown said dirty_after m now new.course next → new.course ≡ GoesOn → Goes IsUnclaimed job.replies c next (Began part) calls dirty dirty_after (Some log) (Some now) f0 f1
-      → may_change (Copies next.top.source next.top.target) (folder_of part) ≡ true
+      → may_hold_parts (Copies next.top.source next.top.target) (folder_of part) ≡ true
   of_copy c next m calls f0 f1 k on steps = by (is_fresh next.at.stage) refl
     where
       g : TreeGoes said dirty_after m now next
       g = k.goes (ap is_over on)
 
-      by : (b : Bool) → is_fresh next.at.stage ≡ b → may_change (Copies next.top.source next.top.target) (folder_of part) ≡ true
+      by : (b : Bool) → is_fresh next.at.stage ≡ b → may_hold_parts (Copies next.top.source next.top.target) (folder_of part) ≡ true
       by true fresh =
           let s = g.stands in
           let o = s.unbegun fresh in
@@ -128,12 +127,12 @@ module _ (told : HistoryFacts) (dirty dirty_after : List Route) (marks : Marks) 
           let s = g.stands in
           let place = s.in_place in
           let has = g.begun some in
-          subst (λ q. may_change (Copies next.top.source next.top.target) q ≡ true)
+          subst (λ q. may_hold_parts (Copies next.top.source next.top.target) q ≡ true)
           (sym (in_worked said dirty_after m (current now) new.course part refl now next.at next.at.item (began_workable steps.free job.replies c next part calls dirty dirty_after (Some log) (Some now) steps.since f1 steps.steps) k.part has.item))
           (moved_own next.top next.at.levels.inner next.at.levels.around place.levels)
 
   of_work : (old work : Work) (m : Marks) (calls f0 f1 : ℕ) → WorkTells job.replies old (Began part) work → WorkKnows said dirty_after m now new.course work → new.course ≡ GoesOn
-      → Walks IsUnclaimed job.replies old work (Began part) calls dirty dirty_after (Some log) (Some now) f0 f1 → may_change (item_in work) (folder_of part) ≡ true
+      → Walks IsUnclaimed job.replies old work (Began part) calls dirty dirty_after (Some log) (Some now) f0 f1 → may_hold_parts (item_in work) (folder_of part) ≡ true
   of_work (Copy c) (Copy next) m calls f0 f1 t k on walks = of_copy c next m calls f0 f1 k on walks
   of_work (Delete d) (Delete next) m calls f0 f1 t k on walks = absurd t
   of_work (Make w) (Make next) m calls f0 f1 t k on walks = absurd t
@@ -152,7 +151,7 @@ module _ (told : HistoryFacts) (dirty dirty_after : List Route) (marks : Marks) 
       let t : TellsOn GoesOn job (Began part) new = subst (λ (course : Course). TellsOn course job (Began part) new) goes.0 works.tells in
       subst (λ w. WorkTells job.replies job.work (Began part) w) (sym (ap (λ (x : Running). x.work) t.2)) t.1
 
-  pub began_own : may_change (item_in new.work) (folder_of part) ≡ true
+  pub began_own : may_hold_parts (item_in new.work) (folder_of part) ≡ true
   began_own =
       let w = works.walks in
       let c = come in
@@ -180,7 +179,7 @@ begun_as (Ended ending part) path h = absurd (false≢true h)
 -- the parts of the live job
 abbrev pub AreOwn : List Entry → List Running → Type 0
 AreOwn g [] = Unit {0}
-AreOwn g (job ∷ jobs) = (path : Route) → has_named_part job.id path g ≡ true → may_change (item_in job.work) (folder_of path) ≡ true
+AreOwn g (job ∷ jobs) = (path : Route) → has_named_part job.id path g ≡ true → may_hold_parts (item_in job.work) (folder_of path) ≡ true
 
 own_after : (g : List Entry) (new : Running) (b : Bool) → (b ≡ false → AreOwn g (new ∷ [])) → AreOwn g (before_others (if◌then◌else◌ b None (Some new)) [])
 own_after g new true t = tt
@@ -190,7 +189,7 @@ own_ordered : (g : List Entry) (id : ℕ) (order : JobOrder) (jobs : List Runnin
 own_ordered g id order [] own = tt
 own_ordered g id order (job ∷ jobs) own =
     let same = order_same id order job in
-    λ path named. subst (λ i. may_change i (folder_of path) ≡ true) (sym same.1) (own path (ap (λ n. has_named_part n path g) (sym same.0) ∙ named))
+    λ path named. subst (λ i. may_hold_parts i (folder_of path) ≡ true) (sym same.1) (own path (ap (λ n. has_named_part n path g) (sym same.0) ∙ named))
 
 own_closing : (g : List Entry) (b : Bool) (stand : Stand) → AreOwn g stand.jobs → AreOwn g (let s : Stand = if_closed b stand in s.jobs)
 own_closing g false stand own = own
@@ -217,13 +216,13 @@ module _ (opening : CallLog) (tree : IsTree (current opening)) (settled : all_se
       λ path named.
       let same = tells_same job new did works.tells in
       elim (changed_by (has_named_part new.id path older) ((id == new.id) && begins_part did path) (sym (ap (λ w. named_part_after new.id path w (has_named_part new.id path older)) what_is) ∙ named)) [
-        | inl old ↦ subst (λ i. may_change i (folder_of path) ≡ true) (sym same.1) (own path (ap (λ n. has_named_part n path older) (sym same.0) ∙ old))
+        | inl old ↦ subst (λ i. may_hold_parts i (folder_of path) ≡ true) (sym same.1) (own path (ap (λ n. has_named_part n path older) (sym same.0) ∙ old))
         | inr now_named ↦ began_own (told_of opening before older r.part) was.dirty dirty_after r.marks before now r.kept job new path knows
             (subst (λ d. WorkLeads job d new was.dirty dirty_after before now) (begun_as did path (and_parts (id == new.id) (begins_part did path) now_named).1) works)
       ]
   own_step e older id did was job new dirty_after before now r knows what_is own (inr syncs) = by syncs.synced
     where
-      kept : (path : Route) → begins_part did path ≡ false → has_named_part job.id path (e ∷ older) ≡ true → may_change (item_in job.work) (folder_of path) ≡ true
+      kept : (path : Route) → begins_part did path ≡ false → has_named_part job.id path (e ∷ older) ≡ true → may_hold_parts (item_in job.work) (folder_of path) ≡ true
       kept path none named = elim (changed_by (has_named_part job.id path older) ((id == job.id) && begins_part did path) (sym (ap (λ w. named_part_after job.id path w (has_named_part job.id path older)) what_is) ∙ named)) [
         | inl old ↦ own path old
         | inr h ↦ absurd (both_ways _ none (and_parts (id == job.id) (begins_part did path) h).1)
