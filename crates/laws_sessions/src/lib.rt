@@ -26,8 +26,9 @@ pub fn where_doubt_lies()
     ensures { OwedLaw }
 {}
 
-/// Once a job has made its first change, each change that isn't on the disk yet is in a folder of its own,
-/// on another mount, or in a folder that was removed; and so is a mode, of the path itself.
+/// Once a job has made its first change, each change of a name that isn't on the disk yet is one of its
+/// report, or waited before on another mount, or in a folder that was removed; and so is a mode. But for
+/// what another live job named last.
 pub fn what_a_first_change_leaves_in_doubt()
     ensures { FirstChangeLaw }
 {}
