@@ -37,11 +37,11 @@ use Rattle.copy_move.specs.Jobs.{CallsOn, Running, TellsOn, WorkCalls, WorkTells
 use Rattle.copy_move.specs.JobStepReports.{SyncsOwed, Walks, WalksOn}
 use Rattle.laws_sessions.specs.Replayed.{replayed_tree}
 use Rattle.laws_sessions.specs.Traces.{EventLeads, IsTraced, IsUnclaimed, Stand, StepLeads}
-use Rattle.laws_sessions.proofs.Done.{IsFound, found_moment, same_item}
+use Rattle.laws_sessions.proofs.Done.{IsFound, found_moment}
 use Rattle.laws_sessions.proofs.Going.{only_job}
 use Rattle.laws_sessions.proofs.Histories.{traced_reached}
 use Rattle.laws_sessions.proofs.JobKnows.{WorkKnows}
-use Rattle.laws_sessions.proofs.Reports.{HasLive, JobsKnow}
+use Rattle.laws_sessions.proofs.Reports.{HasLive, JobsKnow, told_item}
 use Rattle.laws_sessions.proofs.Knowing.{IsKept, HistoryFacts}
 use Rattle.laws_sessions.proofs.Moments.{log_of}
 use Rattle.laws_sessions.proofs.Prefixes.{replayed_more, told_of}
@@ -256,7 +256,7 @@ module _ (opening now : CallLog) (tree : IsTree (current opening)) (settled : al
           let done : JobDone (passed_over job.id older) (tree_begun opening f.before job.id older) (replayed_tree opening f.before older) (current f.before) job =
           subst (λ js. JobsDone (λ n. passed_over n older) (λ n. tree_begun opening f.before n older) (replayed_tree opening f.before older) (current f.before) js) one.0 (traced_done opening tree settled older f.was f.before f.traced) in
           let said = subst (λ js. JobsSaid (λ n. asks_still n older) (λ n. replies_said n older) js) one.0 (traced_said opening tree settled older f.was f.before f.traced) in
-          let same = same_item opening tree settled now e older job (live_jobs older) r.part item (subst (λ js. HasLive (live_jobs older) js r.part) one.0 r.live) (ap (λ n. live_item n (live_jobs older)) one.1 ∙ its) in
+          let same = told_item job (live_jobs older) r.part item (subst (λ js. HasLive (live_jobs older) js r.part) one.0 r.live) (ap (λ n. live_item n (live_jobs older)) one.1 ∙ its) in
           subst (λ (v : View). IsAs (replies_said id older) v item did) (sym (ap (λ (l : CallLog). replayed_tree opening l older) f.end_is ∙ replayed_more opening f.before f.rest older r.within))
           (subst (λ n. IsAs (replies_said n older) (replayed_tree opening f.before older) item did) one.1
           (subst (λ i. IsAs (replies_said job.id older) (replayed_tree opening f.before older) i did) same

@@ -18,7 +18,7 @@ use Rattle.session_entries.specs.declared.history.Event.{Event}
 use Rattle.session_entries.specs.declared.history.Event.TheVariants.{Key, Look, Sought, Order, Step, Next, Closed}
 use Rattle.session_entries.specs.declared.history.Event.TheVariants as event
 use Rattle.session_entries.specs.declared.history.Entry.{Entry}
-use Rattle.session_entries.specs.Entries.{is_closed}
+use Rattle.session_entries.specs.Entries.{IsMoment, is_closed}
 use Rattle.session_entries.specs.LiveJobs.{live_jobs}
 use Rattle.session_entries.specs.Sources.{sources_of}
 use Rattle.copy_move.specs.declared.run.Course.{Course}
@@ -43,7 +43,6 @@ use Rattle.laws_sessions.proofs.Turns.{Turned, one_turned, turned_id, turned_to}
 use Rattle.laws_outcomes.specs.Begun.{begun_after, tree_begun}
 use Rattle.laws_outcomes.specs.Outcomes.{Finishes, passed_over}
 use Rattle.laws_outcomes.specs.Touched.{touches}
-use Rattle.laws_outcomes.specs.OutcomeLaws.{UntouchedLaw}
 use Rattle.laws_outcomes.proofs.BegunTrees.{begun_more}
 use Rattle.laws_outcomes.proofs.Doing.{JobDone, JobsDone}
 use Rattle.laws_outcomes.proofs.MadeThings.{Unless}
@@ -182,7 +181,8 @@ module _ (opening now : CallLog) (newest : List Entry) (stand : Stand) (tree : I
           ∙ (ap (λ n. tree_begun opening f.before n older path) id_is
           ∙ ap (λ (v : View). v path) (sym (ap (λ (l : CallLog). tree_begun opening l id older) f.end_is ∙ begun_more opening f.before f.rest id older r.within))))
 
-pub untouched_law : UntouchedLaw
-untouched_law opening now newest stand tree settled traced e older id item path h moment off =
+pub untouched_since : (opening now : CallLog) (newest : List Entry) (stand : Stand) → IsTree (current opening) → all_settled opening.changes ≡ true → IsTraced opening newest stand now → (e : Entry) (older : List Entry) (id : ℕ) (item : ItemOfJob) (path : Route)
+    → Finishes e older id item → IsMoment newest (e ∷ older) (e ∷ older) e.calls → touches item path ≡ false → replayed_tree opening now older path ≡ tree_begun opening now id older path
+untouched_since opening now newest stand tree settled traced e older id item path h moment off =
     kept_by opening now newest stand tree settled e older id item path h off
     (found_moment opening tree settled now e older [] newest (e ∷ older) (e ∷ older) stand e.calls now [] traced (ap (log_of now) (sym (append-nil now.changes))) moment (inl refl))

@@ -45,7 +45,7 @@ use Rattle.laws_sessions.proofs.CopyExampleSteps.{counts}
 use Rattle.laws_sessions.proofs.ExampleParts.{entry, file, folder, known_is, own_step, stand}
 use Rattle.laws_outcomes.specs.Keeps.{has_kept}
 use Rattle.laws_outcomes.proofs.ExampleSteps.{IsStep, at_last, job, tells_own, with_top_passed, works}
-use Rattle.laws_outcomes.proofs.KeptSessions.{kept_law}
+use Rattle.laws_outcomes.proofs.UntouchedSteps.{kept_law}
 
 -- the file at the target: newer, longer, and with another mode
 abbrev pub old_file : Node
@@ -318,7 +318,8 @@ ended_traced =
 
 -- The job has kept something, so each path shows what it showed at the opening.
 pub all_is_as_it_was : (path : Route) → replayed_tree (log []) (log []) kept_entries path ≡ visible_tree small path
-all_is_as_it_was path = kept_law (log []) (log []) (end ∷ kept_entries) (stand [] []) small_tree refl ended_traced end kept_entries 1 source target path (record { ended = refl; its = refl }) (inl (refl, refl, refl)) has
+all_is_as_it_was path =
+    let law = kept_law (log []) (log []) (end ∷ kept_entries) (stand [] []) small_tree refl ended_traced in law.since end kept_entries 1 source target path (record { ended = refl; its = refl }) (inl (refl, refl, refl)) has refl
   where
     has : has_kept 1 kept_entries ≡ true
     has = refl

@@ -18,7 +18,7 @@ use Rattle.session_entries.specs.declared.history.Event.{Event}
 use Rattle.session_entries.specs.declared.history.Event.TheVariants.{Key, Look, Sought, Order, Step, Next, Closed}
 use Rattle.session_entries.specs.declared.history.Event.TheVariants as event
 use Rattle.session_entries.specs.declared.history.Entry.{Entry}
-use Rattle.session_entries.specs.Entries.{is_closed}
+use Rattle.session_entries.specs.Entries.{IsMoment, is_closed}
 use Rattle.session_entries.specs.LiveJobs.{live_jobs}
 use Rattle.session_entries.specs.Sources.{sources_of}
 use Rattle.copy_move.specs.declared.run.Course.TheVariants.{GoesOn, Skips}
@@ -43,7 +43,6 @@ use Rattle.laws_sessions.proofs.Stepped.{more}
 use Rattle.laws_sessions.proofs.Turns.{Turned, one_turned, turned_id, turned_to}
 use Rattle.laws_outcomes.specs.Begun.{begun_after, tree_begun}
 use Rattle.laws_outcomes.specs.Keeps.{has_kept, keeps_after, keeps_by}
-use Rattle.laws_outcomes.specs.OutcomeLaws.{KeptLaw}
 use Rattle.laws_outcomes.specs.Outcomes.{Finishes}
 use Rattle.laws_outcomes.proofs.BegunTrees.{begun_more}
 use Rattle.laws_outcomes.proofs.Elsewhere.{ended_on}
@@ -189,7 +188,7 @@ made_no_copy : {A : Type 0} (new : NewThing) (path source target : Route) → ma
 made_no_copy thing.Folder path source target is = absurd (let f : ⊥ = cc in f)
 made_no_copy (thing.Link text) path source target is = absurd (let f : ⊥ = cc in f)
 
-all_same : (v was : View) (kept : Bool) (work : Work) (source target : Route) → item_in work ≡ Copies source target → kept ≡ true → Spares v was kept work → AllSame v was
+pub all_same : (v was : View) (kept : Bool) (work : Work) (source target : Route) → item_in work ≡ Copies source target → kept ≡ true → Spares v was kept work → AllSame v was
 all_same v was kept (Copy c) source target is has s = (s.spared.over has).1
 all_same v was kept (Delete d) source target is has s = absurd (let f : ⊥ = cc in f)
 all_same v was kept (Make m) source target is has s = made_no_copy m.thing m.path source target is
@@ -218,7 +217,8 @@ module _ (opening now : CallLog) (newest : List Entry) (stand : Stand) (tree : I
           ∙ (ap (λ n. tree_begun opening f.before n older path) id_is
           ∙ ap (λ (v : View). v path) (sym (ap (λ (l : CallLog). tree_begun opening l id older) f.end_is ∙ begun_more opening f.before f.rest id older r.within))))
 
-pub kept_law : KeptLaw
-kept_law opening now newest stand tree settled traced e older id source target path h moment has =
+pub kept_since : (opening now : CallLog) (newest : List Entry) (stand : Stand) → IsTree (current opening) → all_settled opening.changes ≡ true → IsTraced opening newest stand now → (e : Entry) (older : List Entry) (id : ℕ) (source target path : Route)
+    → Finishes e older id (Copies source target) → IsMoment newest (e ∷ older) (e ∷ older) e.calls → has_kept id older ≡ true → replayed_tree opening now older path ≡ tree_begun opening now id older path
+kept_since opening now newest stand tree settled traced e older id source target path h moment has =
     spared_by opening now newest stand tree settled e older id source target path h has
     (found_moment opening tree settled now e older [] newest (e ∷ older) (e ∷ older) stand e.calls now [] traced (ap (log_of now) (sym (append-nil now.changes))) moment (inl refl))

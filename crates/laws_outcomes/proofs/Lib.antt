@@ -49,4 +49,5 @@ pub mod TreeFolders
 pub mod TreeItems
 pub mod TreeLevels
 pub mod TreePasses
+pub mod UntouchedSteps
 pub mod Walked

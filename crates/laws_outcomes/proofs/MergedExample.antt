@@ -39,7 +39,7 @@ use Rattle.laws_sessions.proofs.CopyExampleSteps.{counts}
 use Rattle.laws_sessions.proofs.ExampleParts.{entry, folder, known_is, own_step, stand}
 use Rattle.laws_outcomes.specs.Keeps.{has_kept}
 use Rattle.laws_outcomes.proofs.ExampleSteps.{IsStep, at_last as decided, job as job_of, tells_own, with_top_passed as merged, works}
-use Rattle.laws_outcomes.proofs.KeptSessions.{kept_law}
+use Rattle.laws_outcomes.proofs.UntouchedSteps.{kept_law}
 
 abbrev pub outer_name : List ℕ
 outer_name = 100 ∷ []
@@ -294,13 +294,15 @@ in_turn = (refl, (tt, (([], refl), (tt, (tt, tt)))))
 
 -- The job has merged both, so each path shows what it showed at the opening: as it goes on with the inner one, and at its end.
 pub outer_is_as_it_was : (path : Route) → replayed_tree log log merged_entries path ≡ visible_tree small path
-outer_is_as_it_was path = kept_law log log turned_entries (stand (job inner_begins ∷ []) []) small_tree refl turned_traced turn merged_entries 1 outer.source outer.target path (record { ended = refl; its = refl }) (inl (refl, refl, refl)) has
+outer_is_as_it_was path =
+    let law = kept_law log log turned_entries (stand (job inner_begins ∷ []) []) small_tree refl turned_traced in law.since turn merged_entries 1 outer.source outer.target path (record { ended = refl; its = refl }) (inl (refl, refl, refl)) has refl
   where
     has : has_kept 1 merged_entries ≡ true
     has = refl
 
 pub all_is_as_it_was : (path : Route) → replayed_tree log log both_entries path ≡ visible_tree small path
-all_is_as_it_was path = kept_law log log (end ∷ both_entries) (stand [] []) small_tree refl ended_traced end both_entries 1 inner.source inner.target path (record { ended = refl; its = refl }) (inl (refl, refl, refl)) has
+all_is_as_it_was path =
+    let law = kept_law log log (end ∷ both_entries) (stand [] []) small_tree refl ended_traced in law.since end both_entries 1 inner.source inner.target path (record { ended = refl; its = refl }) (inl (refl, refl, refl)) has refl
   where
     has : has_kept 1 both_entries ≡ true
     has = refl

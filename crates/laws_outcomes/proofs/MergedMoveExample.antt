@@ -45,7 +45,7 @@ use Rattle.laws_sessions.specs.Traces.{IsTraced, nothing_live}
 use Rattle.laws_sessions.proofs.ExampleParts.{entry, file, folder, own_step, stand}
 use Rattle.laws_outcomes.specs.Answered.{HoldsSome, IsMergedWhole}
 use Rattle.laws_outcomes.proofs.AnswersLaw.{answered_law}
-use Rattle.laws_outcomes.proofs.Elsewhere.{untouched_law}
+use Rattle.laws_outcomes.proofs.UntouchedSteps.{untouched_law}
 use Rattle.laws_outcomes.proofs.Outcome.{outcome_law}
 
 -- the root holds two folders, under the names 1 and 2, and in the first stands a file under the name 3
@@ -376,5 +376,5 @@ folder_gone =
 pub file_moved : (replayed_tree (log []) last_log last_entries inner.target).value ≡ Some (value file)
 file_moved =
     ap (λ (s : Spot). s.value)
-    (untouched_law (log []) last_log (end ∷ last_entries) (stand [] []) small_tree refl ended_traced end last_entries 1 (jobs.RemovesEmptied outer.source) inner.target (record { ended = refl; its = refl }) (inl (refl, refl, refl)) refl)
+    (let law = untouched_law (log []) last_log (end ∷ last_entries) (stand [] []) small_tree refl ended_traced in law.since end last_entries 1 (jobs.RemovesEmptied outer.source) inner.target (record { ended = refl; its = refl }) (inl (refl, refl, refl)) refl refl)
     ∙ inner_moved

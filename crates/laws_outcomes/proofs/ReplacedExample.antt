@@ -6,8 +6,10 @@ use Rattle.std.specs.Fmt.{digits}
 use Rattle.mc_text.specs.Routes.{Route, same_path}
 use Rattle.mc_text.specs.declared.kind.Kind.TheVariants.{File}
 use Rattle.tree_trait.specs.declared.file_system.Node.{Node}
-use Rattle.tree_trait.specs.FileSystem.{value}
+use Rattle.tree_trait.specs.declared.file_system.FileSystem.{FileSystem}
+use Rattle.tree_trait.specs.FileSystem.{value, value_at}
 use Rattle.tree_trait.specs.Change.{Change, Makes, Moves, Syncs, Writes, CallLog, current}
+use Rattle.tree_trait.specs.CrashImages.{IsCrashImage}
 use Rattle.job_reports.specs.declared.answer.Answer.TheVariants.{Yes}
 use Rattle.job_reports.specs.declared.question.Question.{Question}
 use Rattle.job_reports.specs.declared.report.Did.TheVariants.{Barrier, Began, Chunk, Ended, Placed}
@@ -48,6 +50,8 @@ use Rattle.laws_sessions.specs.Traces.{IsTraced, WorkLeads}
 use Rattle.laws_sessions.proofs.CopyExampleSteps.{counts}
 use Rattle.laws_sessions.proofs.ExampleParts.{entry, file, known_is, own_step, stand}
 use Rattle.laws_outcomes.proofs.ExampleSteps.{IsStep, anywhere, at_last, job, tells_own, works}
+use Rattle.laws_sessions.specs.Safe.{IsPart}
+use Rattle.laws_sessions.proofs.Done.{done_law}
 use Rattle.laws_outcomes.proofs.KeptExample.{asked_entries, asked_traced, asks, begun, holder, is_decided, log, own_folder, pair, question, small, small_tree, source, stays, target}
 use Rattle.laws_outcomes.specs.Answered.{IsQuestionOf, replies_said}
 use Rattle.laws_outcomes.proofs.AnswersLaw.{answered_law}
@@ -394,3 +398,13 @@ pub part_is_answered : (asks : Question) × IsQuestionOf (replayed_tree (log [])
 part_is_answered =
     (let law = answered_law (log []) done_log (end ∷ done_entries) (stand [] []) small_tree refl ended_traced in law.copies) (entry 1 (Step 1 (Began part))) yes_entries 1 (Began part) source target refl refl
     (inr (inr (inr (inr (inr (inr (inr (inr (inl (refl, refl, refl)))))))))) refl refl
+
+-- Nothing stands any more where its part was, which is a path of the job's own, and no crash brings that back.
+pub part_is_gone : (image : FileSystem) → IsCrashImage done_log 5 image → value_at image part ≡ None
+unfolding digits
+part_is_gone image left =
+    done_law (log []) done_log (end ∷ done_entries) (stand [] []) small_tree refl ended_traced end done_entries (end ∷ done_entries) (end ∷ done_entries) 5 part image
+    (record { id = 1; item = jobs.Copies source target; ended = refl; changed = refl; its = refl; own = inr (refl, refl) }) no_part refl (λ m. false≢true m.begins) (inl (refl, refl, refl)) (inl refl) (inl refl) left
+  where
+    no_part : IsPart (end ∷ done_entries) done_log part → ⊥
+    no_part p = elim p.stays [ inl stands ↦ false≢true stands | inr waits ↦ false≢true waits ]

@@ -25,7 +25,7 @@ use Rattle.laws_outcomes.specs.OutcomeLaws.{AllSourcesLaw}
 use Rattle.laws_outcomes.specs.Begun.{begun_after, tree_begun}
 use Rattle.laws_outcomes.specs.Outcomes.{IsOutcome, as_copied}
 use Rattle.laws_outcomes.specs.Touched.{touches}
-use Rattle.laws_outcomes.proofs.Elsewhere.{untouched_law}
+use Rattle.laws_outcomes.proofs.Elsewhere.{untouched_since}
 use Rattle.laws_outcomes.proofs.Outcome.{outcome_law}
 
 -- an outcome hangs on what concerns the item alone
@@ -74,7 +74,7 @@ module _ (opening now : CallLog) (newest : List Entry) (stand : Stand) (tree : I
       turns : (number : ℕ) (b : Bool) (o : Option ItemOfJob) → (number == id) ≡ b → (number ≡ id → IsDoneWith id e.what) → live_item id (live_jobs g) ≡ o
           → (if b then option_map_or (λ i. not (touches i path)) o false else true) ≡ true → (let v : View = if b then At g else Begun g in v) path ≡ Begun g path
       turns number true (Some item) same done its off =
-          untouched_law opening now newest stand tree settled traced e g id item path (record { ended = done (eqb-true number id same); its = its }) moment (not_true (touches item path) off)
+          untouched_since opening now newest stand tree settled traced e g id item path (record { ended = done (eqb-true number id same); its = its }) moment (not_true (touches item path) off)
       turns number true None same done its off = absurd (false≢true off)
       turns number false o same done its off = refl
 
@@ -106,6 +106,6 @@ all_sources_law opening now newest stand tree settled traced e first older befor
     outcome_same item _ (tree_begun opening now id before) (replayed_tree opening now before) (replayed_tree opening now older)
     (λ path concerned.
     let off = apart path concerned in
-    untouched_law opening now newest stand tree settled traced e older id last path h moment off.0
+    untouched_since opening now newest stand tree settled traced e older id last path h moment off.0
     ∙ begun_since opening now newest stand tree settled traced id path first before item t older e e.calls moment off.1)
     (outcome_law opening now newest stand tree settled traced first before id item (record { ended = subst (IsDoneWith id) (sym t.turns) refl; its = t.its }) then_moment)

@@ -106,7 +106,7 @@ kept_after Barrier v was new h = h
 kept_after (Troubled trouble) v was new h = h
 
 -- what a report makes of the tree elsewhere than at the path that it changes
-placed_off : (item : Option ItemOfJob) (path : Route) (v : View) (p : Route) → same_path p path ≡ false → placed_by item path v p ≡ v p
+pub placed_off : (item : Option ItemOfJob) (path : Route) (v : View) (p : Route) → same_path p path ≡ false → placed_by item path v p ≡ v p
 placed_off (Some (Copies source target)) path v p off = put_off v path (option_map placed_copy (v (moved_from source target path)).value) p off
 placed_off (Some (Moves source target)) path v p off = refl
 placed_off (Some (Removes top)) path v p off = refl
@@ -116,7 +116,7 @@ placed_off (Some (Sets thing mode)) path v p off = refl
 placed_off (Some (RemovesEmptied folder)) path v p off = refl
 placed_off None path v p off = refl
 
-set_off : (item : Option ItemOfJob) (path : Route) (v : View) (p : Route) → same_path p path ≡ false → set_by item path v p ≡ v p
+pub set_off : (item : Option ItemOfJob) (path : Route) (v : View) (p : Route) → same_path p path ≡ false → set_by item path v p ≡ v p
 set_off (Some (Copies source target)) path v p off = put_off v path (option_map (with_mode_of (v (moved_from source target path)).value) (v path).value) p off
 set_off (Some (Moves source target)) path v p off = refl
 set_off (Some (Removes top)) path v p off = refl

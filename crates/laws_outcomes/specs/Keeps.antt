@@ -8,15 +8,19 @@ use Rattle.job_reports.specs.declared.report.Did.TheVariants.{Began, Chunk, Plac
 use Rattle.job_reports.specs.declared.report.Did.TheVariants.{Set, Kept, Skipped, Cleaned, Barrier}
 use Rattle.job_reports.specs.declared.report.Did.TheVariants.{Asked, Merges, Moved, Troubled, Ended}
 use Rattle.job_reports.specs.Jobs.{Copies}
+use Rattle.job_reports.specs.Reports.{ends}
 use Rattle.session_entries.specs.declared.history.Event.{Event}
 use Rattle.session_entries.specs.declared.history.Event.TheVariants.{Key, Look, Sought, Order}
 use Rattle.session_entries.specs.declared.history.Event.TheVariants.{Step, Next, Closed}
 use Rattle.session_entries.specs.declared.history.Event.TheVariants as event
 use Rattle.session_entries.specs.declared.history.Entry.{Entry}
 use Rattle.session_entries.specs.Entries.{IsMoment}
+use Rattle.session_entries.specs.Named.{names}
 use Rattle.laws_sessions.specs.Replayed.{replayed_tree}
 use Rattle.laws_outcomes.specs.Outcomes.{Finishes}
 use Rattle.laws_outcomes.specs.Begun.{tree_begun}
+use Rattle.laws_outcomes.specs.Others.{have_others_named}
+use Rattle.laws_outcomes.specs.Untouched.{IsStepOf}
 
 -- whether a job has kept something once it has reported this: a file or a link at its target, or a folder
 -- there, with which that of the source is merged
@@ -53,11 +57,16 @@ abbrev pub has_kept : ℕ → List Entry → Bool
 has_kept id [] = false
 has_kept id (e ∷ older) = keeps_after id e.what (has_kept id older)
 
--- Wherever in a history a job is done with a copy whose target it has kept, each path shows what it showed
--- where the job began with it.
-abbrev pub LeavesKept : CallLog → CallLog → List Entry → Type 0
-LeavesKept opening now newest =
-    (e : Entry) (older : List Entry) (id : ℕ) (source target path : Route)
-    → Finishes e older id (Copies source target) → IsMoment newest (e ∷ older) (e ∷ older) e.calls
-    → has_kept id older ≡ true
-    → replayed_tree opening now older path ≡ tree_begun opening now id older path
+pub record LeavesKept (opening now : CallLog) (newest : List Entry) : Type 0 where
+  -- What a job reports once it has kept the target of its copy, each path shows what it showed before; but
+  -- for the part that its end names, which shows what it then is.
+  pub steps : (e : Entry) (older : List Entry) (id : ℕ) (source target : Route) (did : Did) (path : Route)
+      → IsStepOf e older id (Copies source target) did → IsMoment newest (e ∷ older) (e ∷ older) e.calls
+      → has_kept id older ≡ true → (ends did ≡ true → names did path ≡ false)
+      → replayed_tree opening now (e ∷ older) path ≡ replayed_tree opening now older path
+  -- And wherever a job is done with such a copy, each path that no other job named meanwhile shows what it
+  -- showed where the job began with it.
+  pub since : (e : Entry) (older : List Entry) (id : ℕ) (source target path : Route)
+      → Finishes e older id (Copies source target) → IsMoment newest (e ∷ older) (e ∷ older) e.calls
+      → has_kept id older ≡ true → have_others_named id path older ≡ false
+      → replayed_tree opening now older path ≡ tree_begun opening now id older path

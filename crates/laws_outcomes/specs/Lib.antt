@@ -4,6 +4,7 @@ pub mod Arrivals
 pub mod Begun
 pub mod Keeps
 pub mod KeepsFiles
+pub mod Others
 pub mod Outcomes
 pub mod OutcomeLaws
 pub mod PowerCut

@@ -1,6 +1,6 @@
--- Which paths a job may change for a source, and which entries take a source up. Histories stand newest
--- first here.
-use Rattle.std.specs.Prelude.{◌≡◌, ◌⊎◌, ◌||◌, ◌&&◌, not, Bool, true, false, List, [], ◌∷◌, Option, None}
+-- Which paths a job may fill or remove for a source, and which entries take a source up. Histories stand
+-- newest first here.
+use Rattle.std.specs.Prelude.{◌≡◌, ◌⊎◌, ◌&&◌, not, Bool, false, List, [], ◌∷◌, Option, None}
 use Rattle.std.specs.Option.{option_map_or}
 use Rattle.mc_text.specs.Routes.{Route, is_prefix, same_path}
 use Rattle.tree_trait.specs.CrashImages.{Among}
@@ -13,17 +13,7 @@ use Rattle.session_entries.specs.declared.history.Entry.{Entry}
 use Rattle.session_entries.specs.Moves.{moved_from}
 use Rattle.session_entries.specs.Named.{named_parts}
 use Rattle.session_entries.specs.Sources.{first_item}
-
--- a path that a job may change: what it makes, removes or gives a mode; where it copies or deletes, also
--- what lies in that; where it moves, so of both its paths
-abbrev pub touches : ItemOfJob → Route → Bool
-touches (Copies source target) path = is_prefix target path
-touches (Moves source target) path = is_prefix source path || is_prefix target path
-touches (Removes top) path = is_prefix top path
-touches (Makes made) path = same_path path made
-touches (MakesLink made text) path = same_path path made
-touches (Sets thing mode) path = same_path path thing
-touches (RemovesEmptied folder) path = same_path path folder
+pub use Rattle.laws_sessions.specs.Touched.{touches}
 
 -- one at which a job may put something: at or below the target of a copy or a move, or what is made or given
 -- a mode; but where something is copied into itself, not what would be the copy of its copy

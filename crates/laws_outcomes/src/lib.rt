@@ -12,8 +12,9 @@ pub fn what_a_finished_job_has_done()
     ensures with_all { AllSourcesLaw }
 {}
 
-/// And each path that it doesn't touch for that source shows what it showed where the job began with it;
-/// where it kept the file or the link at its target, or merged a folder with that there, each path does.
+/// And none of its reports changes a path that it doesn't touch for that source, so that shows what it showed
+/// where the job began with it, but for what other jobs named; where it kept the file or the link at its
+/// target, or merged a folder with that there, each path does.
 pub fn what_a_finished_job_left_alone()
     ensures untouched { UntouchedLaw }
     ensures kept { KeptLaw }

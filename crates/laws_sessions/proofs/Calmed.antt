@@ -1,15 +1,14 @@
--- A job's first change comes where nothing on its mount waits for a sync, so only what it names waits there then.
-use Rattle.std.proofs.Common.{◌≡◌, ◌⊎◌, Bool, true, false, not, ◌||◌, List, [], ◌∷◌, refl, sym, ◌∙◌, ap, subst, inl, inr, Option, Some, None, arith, append-nil}
-use Rattle.std.proofs.lemmas.Bool.{both_ways, false≢true, true≢false}
-use Rattle.mc_text.specs.Routes.{Route, same_path}
+-- The same in the words of the history alone: the entry that reports a job's first change is such a step.
+use Rattle.std.proofs.Common.{◌≡◌, ◌⊎◌, Bool, true, false, not, List, [], ◌∷◌, refl, sym, ◌∙◌, ap, subst, inl, inr, Option, Some, None, arith, append-nil}
+use Rattle.std.proofs.lemmas.Bool.{false≢true, true≢false}
+use Rattle.mc_text.specs.Routes.{Route}
 use Rattle.tree_trait.specs.Shape.{IsTree}
 use Rattle.tree_trait.specs.Change.{CallLog, current}
 use Rattle.tree_trait.specs.CrashImages.{Among, all_settled}
 use Rattle.laws_crash.specs.Guarded.{Marks}
 use Rattle.job_answers.specs.declared.replies.Replies.{Replies}
-use Rattle.job_reports.specs.declared.job.Pair.{Pair}
 use Rattle.job_reports.specs.declared.report.Did.{Did}
-use Rattle.job_reports.specs.declared.report.Did.TheVariants.{Began, Chunk, Placed, Removed, Made, Set, Kept, Skipped, Cleaned, Barrier, Asked, Merges, Moved, Troubled, Ended}
+use Rattle.job_reports.specs.declared.report.Did.TheVariants.{Chunk, Placed, Removed, Made, Set, Kept, Skipped, Cleaned, Barrier, Asked, Merges, Moved, Troubled, Ended}
 use Rattle.job_reports.specs.Paths.{folder_of}
 use Rattle.session_entries.specs.declared.history.Event.TheVariants.{Step}
 use Rattle.session_entries.specs.declared.history.Entry.{Entry}
@@ -27,37 +26,32 @@ use Rattle.move_job.specs.Movings as movings
 use Rattle.emptied_job.specs.Removals as removals
 use Rattle.mode_job.specs.Settings as settings
 use Rattle.copy_move.specs.Jobs.{Running, WorkTells, is_fresh}
-use Rattle.copy_move.specs.Settling.{NoneOwed, changed_folder}
+use Rattle.copy_move.specs.Settling.{changed_folder}
 use Rattle.copy_move.specs.JobStepReports.{SyncsOwed}
 use Rattle.laws_sessions.specs.Calmed.{HasBegun, changes_name, changes_thing}
 use Rattle.laws_sessions.specs.CalmedLaw.{CalmLaw}
 use Rattle.laws_sessions.specs.Doubt.{name_waits, node_waits}
 use Rattle.session_entries.specs.LiveJobs.{live_jobs, live_item}
-use Rattle.laws_sessions.specs.Owed.{IsOwed}
 use Rattle.laws_sessions.specs.ApartFolders.{IsApart}
-use Rattle.session_entries.specs.Named.{begins_change, has_changed, left_parts, named_after, named_parts, names, names_path}
+use Rattle.session_entries.specs.Named.{begins_change, has_changed, left_parts, named_after, named_by, named_parts}
 use Rattle.laws_sessions.specs.Replayed.{log_prefix}
 use Rattle.session_entries.specs.Entries.{IsMoment, calls_in}
 use Rattle.laws_sessions.specs.Traces.{EventLeads, IsTraced, Stand, StepLeads, WorkLeads}
 use Rattle.laws_sessions.proofs.Beginnings.{goes_then}
 use Rattle.job_reports.specs.Jobs.{folder_changed}
 use Rattle.laws_sessions.proofs.Sources.{folder_is as item_folder}
-use Rattle.laws_sessions.proofs.Done.{IsFound, found_moment, same_item}
+use Rattle.laws_sessions.proofs.Done.{IsFound, found_moment}
 use Rattle.laws_sessions.proofs.Finished.{AreTidy, IsTidyJob, traced_tidy}
 use Rattle.laws_sessions.proofs.Prefixes.{told_of}
 use Rattle.laws_sessions.proofs.Going.{only_job}
 use Rattle.laws_sessions.proofs.Histories.{traced_reached}
 use Rattle.laws_sessions.proofs.JobKnows.{WorkKnows}
-use Rattle.laws_sessions.proofs.JobLeads.{work_leads}
-use Rattle.laws_sessions.proofs.Knowing.{IsKept, HistoryFacts, mode_waits}
+use Rattle.laws_sessions.proofs.Knowing.{HistoryFacts}
 use Rattle.laws_sessions.proofs.Moments.{prefix_is, log_of, traced_count}
-use Rattle.laws_sessions.proofs.ModesStay.{event_still as mode_still}
-use Rattle.laws_sessions.proofs.Owing.{apart_from, owed_apart, owed_modes, owed_names}
+use Rattle.laws_sessions.proofs.FirstChanges.{modes_calm, names_calm}
 use Rattle.laws_sessions.proofs.Unchanged.{has_begun, is_going}
-use Rattle.laws_sessions.proofs.Reports.{HasLive, JobsKnow}
+use Rattle.laws_sessions.proofs.Reports.{HasLive, JobsKnow, told_item}
 use Rattle.laws_sessions.proofs.TreeKnown.{ItemHas, TreeKnown, is_over}
-use Rattle.laws_sessions.proofs.Staying.{doubting, event_still, kept_doubting, unsaid, work_doubting}
-use Rattle.laws_sessions.proofs.Stepped.{StepRan, said_after}
 
 fresh_stage : (stage : Stage) → at_barrier stage ≡ false → is_going stage ≡ false → is_fresh_stage stage ≡ true
 fresh_stage Begin going none = refl
@@ -101,43 +95,6 @@ module _ (told : HistoryFacts) (dirty : List Route) (marks : Marks) (log : CallL
   fresh_then replies old new (Ended ending part) t h clean k = absurd (false≢true h)
   fresh_then replies old new did t h clean k = absurd t
 
-no_route : (part : Option Route) (path : Route) → part ≡ None → part ≡ Some path → ⊥
-no_route part path none some = let f : ⊥ = cc in f
-
--- what is reported changes what it names, if nothing was moved
-record IsAsNamed (did : Did) : Type 0 where
-  pub name_is : (path : Route) → changes_name did path ≡ names did path
-  pub thing_is : (path : Route) → changes_thing did path ≡ names did path
-
-moves_or_names : (did : Did) → ((pair : Pair) × (did ≡ Moved pair)) ⊎ IsAsNamed did
-moves_or_names (Moved pair) = inl (pair, refl)
-moves_or_names (Began part) = inr (record { name_is = λ q. refl; thing_is = λ q. refl })
-moves_or_names (Removed path) = inr (record { name_is = λ q. refl; thing_is = λ q. refl })
-moves_or_names (Made path) = inr (record { name_is = λ q. refl; thing_is = λ q. refl })
-moves_or_names (Set path) = inr (record { name_is = λ q. refl; thing_is = λ q. refl })
-moves_or_names (Placed path) = inr (record { name_is = λ q. refl; thing_is = λ q. refl })
-moves_or_names (Cleaned gone) = inr (record { name_is = λ q. refl; thing_is = λ q. refl })
-moves_or_names (Chunk count) = inr (record { name_is = λ q. refl; thing_is = λ q. refl })
-moves_or_names (Kept kept) = inr (record { name_is = λ q. refl; thing_is = λ q. refl })
-moves_or_names (Asked question) = inr (record { name_is = λ q. refl; thing_is = λ q. refl })
-moves_or_names (Merges transfer pair within) = inr (record { name_is = λ q. refl; thing_is = λ q. refl })
-moves_or_names (Skipped path cause) = inr (record { name_is = λ q. refl; thing_is = λ q. refl })
-moves_or_names Barrier = inr (record { name_is = λ q. refl; thing_is = λ q. refl })
-moves_or_names (Troubled trouble) = inr (record { name_is = λ q. refl; thing_is = λ q. refl })
-moves_or_names (Ended ending part) = inr (record { name_is = λ q. refl; thing_is = λ q. refl })
-
-neither_is : (a b : Bool) → a ≡ false → b ≡ false → (a || b) ≡ false
-neither_is true b sure off = absurd (true≢false sure)
-neither_is false b sure off = off
-
--- a mode that waits, of a path of which none is said to, is that of a part
-part_waits : (said : HistoryFacts) (path : Route) → said.modes path ≡ false → (dirty : List Route) (marks : Marks) (log : CallLog) → IsKept said dirty marks log → node_waits log path ≡ true → Among said.named path
-part_waits said path sure dirty marks log kept waits = by (marks.aside path) refl
-  where
-    by : (b : Bool) → marks.aside path ≡ b → Among said.named path
-    by true is = kept.known.aside path is
-    by false is = absurd (both_ways _ sure (mode_waits said dirty marks log kept.known path is waits).1)
-
 module _ (opening : CallLog) (tree : IsTree (current opening)) (settled : all_settled opening.changes ≡ true) (end : CallLog) (e : Entry) (older : List Entry) (folder : Route) (h : HasBegun e older folder)
     (f : IsFound opening tree settled end e older) where
   r : Rattle.laws_sessions.proofs.Histories.IsReached opening older f.was f.before
@@ -146,26 +103,26 @@ module _ (opening : CallLog) (tree : IsTree (current opening)) (settled : all_se
   abbrev told : HistoryFacts
   told = told_of opening f.before older r.part
 
-  -- the job whose report it is: nothing was owed by it then, and no part of it stood
+  -- the job whose report it is: it had changed nothing
   record Begins : Type 0 where
     pub job : Running
     pub new : Running
+    pub jobs_is : f.was.jobs ≡ job ∷ []
     pub works : WorkLeads job h.did new f.was.dirty f.after.dirty f.before f.now
-    pub knows : WorkKnows told f.was.dirty r.marks f.before job.course job.work
-    pub none_owed : NoneOwed (current f.before) job.work f.was.dirty
-    pub no_part : r.part ≡ None
+    pub goes : job.course ≡ GoesOn
+    pub fresh : is_fresh job.work ≡ true
     pub folder_is : folder ≡ changed_folder job.work
 
   of_works : (job new : Running) → f.was.jobs ≡ job ∷ [] → job.id ≡ h.id → WorkLeads job h.did new f.was.dirty f.after.dirty f.before f.now → Begins
   of_works job new jobs_is id_is works = record {
     job = job;
     new = new;
+    jobs_is = jobs_is;
     works = works;
-    knows = subst (λ js. JobsKnow told f.was.dirty r.marks f.before js) jobs_is r.knows;
-    none_owed = works.settled goes.0 start.0;
-    no_part = start.1;
+    goes = goes.0;
+    fresh = start.0;
     folder_is =
-        let same = same_item opening tree settled end e older job (live_jobs older) r.part h.item (subst (λ js. HasLive (live_jobs older) js r.part) jobs_is r.live)
+        let same = told_item job (live_jobs older) r.part h.item (subst (λ js. HasLive (live_jobs older) js r.part) jobs_is r.live)
         (subst (λ n. live_item n (live_jobs older) ≡ Some h.item) (sym id_is) h.its) in
         h.within ∙ (ap folder_changed (sym same) ∙ item_folder job.work);
   }
@@ -198,73 +155,19 @@ module _ (opening : CallLog) (tree : IsTree (current opening)) (settled : all_se
       by : EventLeads f.was (Step h.id h.did) f.after f.before f.now → Begins
       by s = of_step s.job s.new s.its s.leads
 
-  -- a folder that is owed lies apart
-  apart_folder : (q : Route) → IsOwed f.was.dirty f.before q → IsApart f.before folder q
-  apart_folder q owed = let b = begins in subst (λ (p : Route). IsApart f.before p q) (sym b.folder_is) (owed_apart (told_of opening f.before older r.part) f.was.dirty r.marks f.before b.job.work q r.kept.known b.none_owed owed)
+  pub names_then : (path : Route) → name_waits f.now path ≡ true → (changes_name h.did path ≡ true) ⊎ ((name_waits f.before path ≡ true) × IsApart f.before folder (folder_of path))
+  names_then path waits =
+      let b = begins in
+      subst (λ (p : Route). (changes_name h.did path ≡ true) ⊎ ((name_waits f.before path ≡ true) × IsApart f.before p (folder_of path))) (sym b.folder_is)
+      (names_calm opening f.before f.now older f.was f.after.dirty b.job b.new h.did tree settled f.traced b.jobs_is b.works b.goes b.fresh path waits)
 
-  -- and so does a dirty path
-  apart : (q : Route) → Among f.was.dirty q → IsApart f.before folder q
-  apart q among = let b = begins in subst (λ (p : Route). IsApart f.before p q) (sym b.folder_is) (apart_from (current f.before) b.job.work f.was.dirty q among b.none_owed)
-
-  -- After the report of a move only its two names wait that didn't before, and of modes only those of parts.
-  module _ (pair : Pair) (did_is : h.did ≡ Moved pair) where
-    abbrev doubts : HistoryFacts
-    doubts = doubting told f.before
-
-    come : StepRan doubts (said_after f.now (Moved pair) (let b = begins in b.job.work) doubts) f.after.dirty f.before f.now (λ marks. Unit {0})
-    come =
-        let b = begins in
-        let c = work_leads doubts f.was.dirty f.after.dirty r.marks f.before f.now (kept_doubting told f.before f.was.dirty r.marks r.kept) b.job b.new h.did
-        (work_doubting told f.before f.was.dirty r.marks f.before b.job.course b.job.work b.knows) b.works in
-        subst (λ did. StepRan doubts (said_after f.now did b.job.work doubts) f.after.dirty f.before f.now (λ marks. Unit {0})) did_is
-        (record { made = c.made; now_is = c.now_is; mids = c.mids; marks = c.marks; kept = c.kept; known_of = tt })
-
-    moved_names : (path : Route) → name_waits f.before path ≡ false → (same_path path pair.source || same_path path pair.target) ≡ false → name_waits f.now path ≡ false
-    moved_names path sure off = (let c = come in unsaid _ path (neither_is (name_waits f.before path) _ sure off) f.after.dirty c.marks f.now c.kept)
-
-    moved_modes : (path : Route) → node_waits f.before path ≡ false → node_waits f.now path ≡ true → Among (named_parts (e ∷ older)) path
-    moved_modes path sure waits =
-        let c = come in
-        subst (λ what. Among (named_after what (left_parts older) (named_parts older)) path) (sym (h.reports ∙ ap (Step h.id) did_is))
-        (part_waits _ path sure f.after.dirty c.marks f.now c.kept waits)
-
-  -- what a report doesn't name its entry doesn't
-  named_of : (path : Route) → names h.did path ≡ false → names_path e.what path ≡ false
-  named_of path unnamed = ap (λ what. names_path what path) h.reports ∙ unnamed
-
-  pub names_calm : (path : Route) → name_waits f.now path ≡ true → (changes_name h.did path ≡ true) ⊎ ((name_waits f.before path ≡ true) × IsApart f.before folder (folder_of path))
-  names_calm path waits = by (name_waits f.before path) refl
-    where
-      still : changes_name h.did path ≡ false → name_waits f.before path ≡ false → name_waits f.now path ≡ false
-      still off sure = elim (moves_or_names h.did) [
-        | inl m ↦ moved_names m.0 m.1 path sure (sym (ap (λ did. changes_name did path) m.1) ∙ off)
-        | inr named ↦
-            let b = begins in
-            (event_still opening older f.was f.before r path sure (no_route r.part path b.no_part) e.what f.after f.now f.leads (named_of path (sym (named.name_is path) ∙ off))).after
-      ]
-
-      of_did : (b : Bool) → changes_name h.did path ≡ b → name_waits f.before path ≡ false → (changes_name h.did path ≡ true) ⊎ ((name_waits f.before path ≡ true) × IsApart f.before folder (folder_of path))
-      of_did true changed sure = inl changed
-      of_did false off sure = absurd (both_ways _ (still off sure) waits)
-
-      by : (waited : Bool) → name_waits f.before path ≡ waited → (changes_name h.did path ≡ true) ⊎ ((name_waits f.before path ≡ true) × IsApart f.before folder (folder_of path))
-      by true waited = inr (waited, apart_folder (folder_of path) (owed_names opening f.before older f.was path tree settled f.traced waited))
-      by false sure = of_did (changes_name h.did path) refl sure
-
-  pub modes_calm : (path : Route) → (Among (named_parts older) path → ⊥) → node_waits f.now path ≡ true
+  pub modes_then : (path : Route) → (Among (named_parts older) path → ⊥) → node_waits f.now path ≡ true
       → (changes_thing h.did path ≡ true) ⊎ (Among (named_parts (e ∷ older)) path ⊎ ((node_waits f.before path ≡ true) × IsApart f.before folder path))
-  modes_calm path unnamed waits = by (node_waits f.before path) refl
-    where
-      of_named : IsAsNamed h.did → node_waits f.before path ≡ false → (b : Bool) → names h.did path ≡ b → (changes_thing h.did path ≡ true) ⊎ (Among (named_parts (e ∷ older)) path ⊎ ((node_waits f.before path ≡ true) × IsApart f.before folder path))
-      of_named named sure true is = inl (named.thing_is path ∙ is)
-      of_named named sure false is = absurd (both_ways _ (mode_still opening older f.was f.before r path sure unnamed e.what f.after f.now f.leads (named_of path is)).after waits)
-
-      by : (waited : Bool) → node_waits f.before path ≡ waited → (changes_thing h.did path ≡ true) ⊎ (Among (named_parts (e ∷ older)) path ⊎ ((node_waits f.before path ≡ true) × IsApart f.before folder path))
-      by true waited = inr (inr (waited, apart path (owed_modes opening f.before older f.was path tree settled f.traced unnamed waited)))
-      by false sure = elim (moves_or_names h.did) [
-        | inl m ↦ inr (inl (moved_modes m.0 m.1 path sure waits))
-        | inr named ↦ of_named named sure (names h.did path) refl
-      ]
+  modes_then path unnamed waits =
+      let b = begins in
+      subst (λ what. (changes_thing h.did path ≡ true) ⊎ (Among (named_after what (left_parts older) (named_parts older)) path ⊎ ((node_waits f.before path ≡ true) × IsApart f.before folder path))) (sym h.reports)
+      (subst (λ (p : Route). (changes_thing h.did path ≡ true) ⊎ (Among (named_by h.did (left_parts older) (named_parts older)) path ⊎ ((node_waits f.before path ≡ true) × IsApart f.before p path))) (sym b.folder_is)
+      (modes_calm opening f.before f.now older f.was f.after.dirty b.job b.new h.did tree settled f.traced b.jobs_is b.works b.goes b.fresh path unnamed waits))
 
 module _ (opening now : CallLog) (newest : List Entry) (stand : Stand) (tree : IsTree (current opening)) (settled : all_settled opening.changes ≡ true) (traced : IsTraced opening newest stand now)
     (e : Entry) (older : List Entry) (folder path : Route) (h : HasBegun e older folder) (moment : IsMoment newest (e ∷ older) (e ∷ older) e.calls) where
@@ -281,20 +184,20 @@ module _ (opening now : CallLog) (newest : List Entry) (stand : Stand) (tree : I
   apart_then q apart = subst (λ (l : CallLog). IsApart l folder q) (sym at_start) apart
 
   calms_names : name_waits (log_prefix opening e.calls now) path ≡ true → (changes_name h.did path ≡ true) ⊎ ((name_waits (log_prefix opening (calls_in older) now) path ≡ true) × IsApart (log_prefix opening (calls_in older) now) folder (folder_of path))
-  calms_names waits = elim (names_calm opening tree settled now e older folder h f path (subst (λ (l : CallLog). name_waits l path ≡ true) at_end waits)) [
+  calms_names waits = elim (names_then opening tree settled now e older folder h f path (subst (λ (l : CallLog). name_waits l path ≡ true) at_end waits)) [
     | inl changed ↦ inl changed
     | inr (waited, apart) ↦ inr (subst (λ (l : CallLog). name_waits l path ≡ true) (sym at_start) waited, apart_then (folder_of path) apart)
   ]
 
   calms_modes : (Among (named_parts older) path → ⊥) → node_waits (log_prefix opening e.calls now) path ≡ true
       → (changes_thing h.did path ≡ true) ⊎ (Among (named_parts (e ∷ older)) path ⊎ ((node_waits (log_prefix opening (calls_in older) now) path ≡ true) × IsApart (log_prefix opening (calls_in older) now) folder path))
-  calms_modes unnamed waits = elim (modes_calm opening tree settled now e older folder h f path unnamed (subst (λ (l : CallLog). node_waits l path ≡ true) at_end waits)) [
+  calms_modes unnamed waits = elim (modes_then opening tree settled now e older folder h f path unnamed (subst (λ (l : CallLog). node_waits l path ≡ true) at_end waits)) [
     | inl changed ↦ inl changed
     | inr rest ↦ elim rest [ inl part ↦ inr (inl part) | inr (waited, apart) ↦ inr (inr (subst (λ (l : CallLog). node_waits l path ≡ true) (sym at_start) waited, apart_then path apart)) ]
   ]
 
 pub calm_law : CalmLaw
 calm_law opening now newest stand tree settled traced = record {
-  names = λ e older folder path h moment waits. calms_names opening now newest stand tree settled traced e older folder path h moment waits;
-  modes = λ e older folder path h moment unnamed waits. calms_modes opening now newest stand tree settled traced e older folder path h moment unnamed waits;
+  names = λ e older folder path h moment not_others waits. calms_names opening now newest stand tree settled traced e older folder path h moment waits;
+  modes = λ e older folder path h moment not_others unnamed waits. calms_modes opening now newest stand tree settled traced e older folder path h moment unnamed waits;
 }

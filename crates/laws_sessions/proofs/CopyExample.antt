@@ -16,7 +16,8 @@ use Rattle.session_entries.specs.declared.history.Entry.{Entry}
 use Rattle.session_entries.specs.declared.history.Event.TheVariants.{Began, Step, Closed}
 use Rattle.laws_sessions.specs.Doubt.{is_unsettled}
 use Rattle.laws_sessions.specs.Replayed.{earlier_tree, replayed_tree}
-use Rattle.laws_sessions.specs.Staying.{HasFinished, may_change_path}
+use Rattle.laws_sessions.specs.Staying.{HasFinished}
+use Rattle.laws_sessions.specs.Touched.{touches}
 use Rattle.laws_sessions.specs.Traces.{IsTraced, nothing_live}
 use Rattle.laws_sessions.proofs.Done.{done_law}
 use Rattle.laws_sessions.proofs.ExampleParts.{entry, own_step, stand}
@@ -144,8 +145,8 @@ ended_entries = entry 4 Closed ∷ finished_entries
 ended_traced : IsTraced (log []) ended_entries (stand [] []) synced_log
 ended_traced = (stand [] [], synced_log, finished_traced, record { after = stand [] []; leads = record { after_is = refl; now_is = refl }; stand_is = refl; counts = refl })
 
-abbrev has_finished : (path : Route) → may_change_path (jobs.Copies source target) path ≡ true → HasFinished end synced_entries path
-has_finished path within = record { id = 1; item = jobs.Copies source target; ended = refl; changed = refl; its = refl; within = within }
+abbrev has_finished : (path : Route) → touches (jobs.Copies source target) path ≡ true → HasFinished end synced_entries path
+has_finished path own = record { id = 1; item = jobs.Copies source target; ended = refl; changed = refl; its = refl; own = inl own }
 
 stays_there : (image : FileSystem) → IsCrashImage synced_log 4 image → value_at image target ≡ Some (value shut)
 stays_there image left =

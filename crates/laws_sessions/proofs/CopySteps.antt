@@ -130,6 +130,7 @@ part_cleaned told dirty marks log now work target part i kept has listed firm do
               kind_same log (Removes it.r.f it.r.name it.k) j (found_there (current log) kept.known.guarded.tree target j before) ∙ as_it_was.bare j before;
           was = λ out. as_it_was.was out ∙ sym same;
           stood = λ is. ap is_some same ∙ as_it_was.stood is;
+          calm = λ j at. as_it_was.calm j (sym same ∙ at);
         })))
 
 -- a copy whose part stands isn't to be begun, nor is it decided
@@ -243,7 +244,7 @@ module _ (told : HistoryFacts) (dirty : List Route) (marks : Marks) (log now : C
       (subst (λ q. Known (Placed q) GoesOn (record c { stage = Decided })) (sym path_is)
       (comes_map told (said_placed told t.top.source t.top.target c.target) dirty log now (λ m. (let o : Option Route = None in o) ≡ None)
       (λ m. FileKnows (said_placed told t.top.source t.top.target c.target) dirty m (current now) GoesOn (record c { stage = Decided })) (λ m k none. (name, listed, none))
-      (part_placed told dirty t.top.source t.top.target c source_is name.name name.is part at_fill.1.0 (listed at_fill.0).0 (listed at_fill.0).1 (listed at_fill.0).2 marks log now said kept at_fill.1.1 (at_fill.1.2 refl) row)))
+      (part_placed told dirty t.top.source t.top.target c source_is name.name name.is part at_fill.1.0 (listed at_fill.0).0 (listed at_fill.0).1 marks log now said kept at_fill.1.1 (at_fill.1.2 refl) row)))
   copy_tells new (Cleaned part) going (name, listed, knows) (follows, stage, new_is) rows =
       let at_clean = subst (λ x. StageKnows told marks (current log) GoesOn c x) stage knows in
       let after = said_after now (Cleaned part) (Copy t) told in

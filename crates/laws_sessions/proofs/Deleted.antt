@@ -20,7 +20,7 @@ use Rattle.job_reports.specs.Paths.{folder_of}
 use Rattle.job_reports.proofs.CallAnswers.{done_call, IsDoneCall}
 use Rattle.copy_move.specs.declared.work.Work.{Work}
 use Rattle.copy_move.specs.declared.run.Course.{Course}
-use Rattle.laws_sessions.specs.Staying.{may_change}
+use Rattle.laws_sessions.proofs.OwnFolders.{may_change}
 use Rattle.laws_sessions.specs.Doubt.{is_joint, way_waits}
 use Rattle.laws_sessions.proofs.Calming.{nothing_known}
 use Rattle.laws_sessions.proofs.Changing.{IsHollow, hollow_file, removed_known}

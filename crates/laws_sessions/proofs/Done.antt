@@ -1,8 +1,7 @@
 -- What a job did stays done once it is done with a source, in the words of the history: its entry tells of the job that was live then.
 use Rattle.std.proofs.Common.{◌≡◌, ◌⊎◌, ℕ, ◌+◌, Bool, true, false, List, [], ◌∷◌, ◌++◌, length, refl, sym, ◌∙◌, ap, subst, inl, inr, Option, Some, None, arith, append-nil, append_assoc}
-use Rattle.std.specs.Prelude.{is_some, if◌then◌else◌}
-use Rattle.std.proofs.lemmas.Bool.{eq-eqb}
-use Rattle.mc_text.specs.Routes.{Route, same_path}
+use Rattle.std.specs.Prelude.{is_some}
+use Rattle.mc_text.specs.Routes.{Route}
 use Rattle.tree_trait.specs.declared.file_system.FileSystem.{FileSystem}
 use Rattle.tree_trait.specs.FileSystem.{Spot, find, value_at}
 use Rattle.tree_trait.specs.Shape.{IsTree}
@@ -11,23 +10,20 @@ use Rattle.tree_trait.specs.CrashImages.{Among, IsCrashImage, all_settled}
 use Rattle.job_reports.specs.declared.report.Ending.TheVariants.{Finished}
 use Rattle.job_reports.specs.declared.report.Did.TheVariants.{Ended}
 use Rattle.job_reports.specs.declared.job.Job.{Job}
-use Rattle.job_reports.specs.Paths.{folder_of}
 use Rattle.job_reports.specs.Jobs.{ItemOfJob}
 use Rattle.session_entries.specs.declared.history.Event.TheVariants.{Next, Step}
 use Rattle.session_entries.specs.declared.history.Entry.{Entry}
 use Rattle.copy_move.specs.Jobs.{Running}
-use Rattle.copy_move.specs.declared.work.Work.{Work}
-use Rattle.copy_move.specs.declared.work.Work.TheVariants.{Copy, Delete, Make, Move, SetMode, RemoveEmptied}
 use Rattle.copy_move.specs.JobStepReports.{SyncsOwed}
 use Rattle.laws_sessions.specs.Doubt.{is_unsettled}
-use Rattle.laws_sessions.specs.Owed.{IsNoMatter, is_own_path}
-use Rattle.session_entries.specs.LiveJobs.{LiveJob, live_item, live_jobs}
+use Rattle.laws_sessions.specs.OwnPaths.{IsOwnPath}
+use Rattle.session_entries.specs.LiveJobs.{live_item, live_jobs}
 use Rattle.session_entries.specs.Sources.{IsDoneWith}
 use Rattle.session_entries.specs.Named.{has_changed, named_after, named_parts, IsUnnamedSince, names_path}
 use Rattle.laws_sessions.specs.Replayed.{log_prefix, replayed_tree}
 use Rattle.session_entries.specs.Entries.{IsMoment, calls_in}
 use Rattle.laws_sessions.specs.Safe.{IsPart}
-use Rattle.laws_sessions.specs.Staying.{HasFinished, IsNoMatterOf, may_change_path}
+use Rattle.laws_sessions.specs.Staying.{HasFinished, IsNoMatterOf}
 use Rattle.laws_sessions.specs.StayingLaw.{DoneLaw}
 use Rattle.laws_sessions.specs.Traces.{EventLeads, IsJob, IsTraced, Stand, StepLeads, WorkLeads}
 use Rattle.laws_sessions.proofs.Prefixes.{told_of}
@@ -36,10 +32,8 @@ use Rattle.laws_sessions.proofs.Histories.{enters, traced_reached}
 use Rattle.laws_sessions.proofs.Holding.{holds_since}
 use Rattle.laws_sessions.proofs.Lasting.{finished_stays_law}
 use Rattle.laws_sessions.proofs.Moments.{log_of, prefix_is, traced_count}
-use Rattle.laws_sessions.proofs.Reports.{HasLive}
-use Rattle.laws_sessions.proofs.Sources.{item_in, making_item}
-use Rattle.make_job.specs.declared.new_thing.NewThing.{NewThing}
-use Rattle.make_job.specs.declared.new_thing.NewThing.TheVariants as thing
+use Rattle.laws_sessions.proofs.Reports.{HasLive, told_item}
+use Rattle.laws_sessions.proofs.Sources.{item_in}
 use Rattle.laws_sessions.proofs.Stepped.{more}
 use Rattle.laws_sessions.proofs.Turns.{done_with}
 use Rattle.laws_sessions.proofs.Unnamed.{replayed_since}
@@ -124,38 +118,6 @@ module _ (opening : CallLog) (tree : IsTree (current opening)) (settled : all_se
     pub works : WorkLeads job (Ended Finished part) new was.dirty after.dirty before now
     pub same : item_in job.work ≡ item
 
-  -- the item that the history tells of is that of the live job
-  pub same_item : (job : Running) (live : List LiveJob) (part : Option Route) (item : ItemOfJob) → HasLive live (job ∷ []) part → live_item job.id live ≡ Some item → item_in job.work ≡ item
-  same_item job live part item is its =
-      let first : Some (item_in job.work) ≡ Some item =
-      sym (ap (λ b. if b then Some (item_in job.work) else None) (eq-eqb job.id job.id refl)) ∙ (sym (ap (live_item job.id) is) ∙ its) in cc
-
-  -- and so are the paths of its own
-  own_changed : (work : Work) (path : Route) → may_change_path (item_in work) path ≡ true → is_own_path work path ≡ true
-  own_changed (Copy c) path h = h
-  own_changed (Delete d) path h = h
-  own_changed (Make m) path h = by m.thing h
-    where
-      by : (new : NewThing) → may_change_path (making_item new m.path) path ≡ true → same_path (folder_of path) (folder_of m.path) ≡ true
-      by thing.Folder h = h
-      by (thing.Link text) h = h
-  own_changed (Move m) path h = h
-  own_changed (SetMode s) path h = h
-  own_changed (RemoveEmptied r) path h = h
-
-  -- and what is no matter of it
-  no_matter : (work : Work) (log : CallLog) (path : Route) → IsNoMatter work log path → IsNoMatterOf (item_in work) log path
-  no_matter (Copy c) log path h = h
-  no_matter (Delete d) log path h = h
-  no_matter (Make m) log path h = by m.thing
-    where
-      by : (new : NewThing) → IsNoMatterOf (making_item new m.path) log path
-      by thing.Folder = h
-      by (thing.Link text) = h
-  no_matter (Move m) log path h = h
-  no_matter (SetMode s) log path h = absurd h
-  no_matter (RemoveEmptied r) log path h = h
-
   pub ender : (id : ℕ) (item : ItemOfJob) → IsDoneWith id e.what → live_item id (live_jobs older) ≡ Some item → (f : IsFound) → IsEnder f.was f.after f.before f.now id item
   ender id item done tells f = by (done_with id e.what done)
     where
@@ -170,7 +132,7 @@ module _ (opening : CallLog) (tree : IsTree (current opening)) (settled : all_se
             jobs_is = one.0;
             id_is = one.1;
             works = works;
-            same = same_item job (live_jobs older) r.part item (subst (λ js. HasLive (live_jobs older) js r.part) one.0 r.live) (subst (λ n. live_item n (live_jobs older) ≡ Some item) (sym one.1) tells);
+            same = told_item job (live_jobs older) r.part item (subst (λ js. HasLive (live_jobs older) js r.part) one.0 r.live) (subst (λ n. live_item n (live_jobs older) ≡ Some item) (sym one.1) tells);
           }
 
       none : (part : Option Route) (job new : Running) (synced : Route) → SyncsOwed job synced (Ended Finished part) new f.was.dirty f.after.dirty (Some f.before) (Some f.now) → ⊥
@@ -208,11 +170,11 @@ module _ (opening now : CallLog) (newest : List Entry) (stand : Stand) (tree : I
       let by = ender opening tree settled now e older h.id h.item h.ended h.its f in
       let n = traced_count opening f.before older f.was f.traced in
       let at_start : log_prefix opening (calls_in older) now ≡ f.before = prefix_is opening now (calls_in older) f.before f.rest f.end_is (omega (arith, n)) in
-      finished_stays_law opening now f.now newest older standing coming f.was stand (let a : Stand = f.after in a.dirty) by.job by.new by.part calls path image tree settled traced
+      finished_stays_law opening now f.now newest older standing coming f.was stand (let a : Stand = f.after in a.dirty) by.job by.new by.part h.item calls path image tree settled traced
       (subst (λ (l : CallLog). IsTraced opening older f.was l) (sym at_start) f.traced)
       by.jobs_is (subst (λ (l : CallLog). WorkLeads by.job (Ended Finished by.part) by.new (let w : Stand = f.was in w.dirty) (let a : Stand = f.after in a.dirty) l f.now) (sym at_start) by.works)
-      (subst (λ i. has_changed i older ≡ true) (sym by.id_is) h.changed) (own_changed opening tree settled now e older by.job.work path (subst (λ i. may_change_path i path ≡ true) (sym by.same) h.within)) unnamed
-      (λ matter. none (subst (λ i. IsNoMatterOf i (log_prefix opening (calls_in older) now) path) by.same (no_matter opening tree settled now e older by.job.work (log_prefix opening (calls_in older) now) path matter))) moment (since_before e older standing path bare since) (since_before e older coming path bare later) left
+      (subst (λ i. has_changed i older ≡ true) (sym by.id_is) h.changed) (subst (λ i. live_item i (live_jobs older) ≡ Some h.item) (sym by.id_is) h.its) (subst (λ i. IsOwnPath i h.item older path) (sym by.id_is) h.own) unnamed none moment
+      (since_before e older standing path bare since) (since_before e older coming path bare later) left
 
   told_same : (replayed_tree opening now (e ∷ older) path) ≡ replayed_tree opening now older path
   told_same = replayed_since opening now older (e ∷ older) path (inr (bare, since_self older))

@@ -1,7 +1,7 @@
 -- A small session, so the premises can be met: a deletion whose sync fails and that is aborted, its last sync failing too; then
 -- the file is in doubt. The next job syncs that folder first, after which no crash brings the file back; its first change leaves
 -- nothing else in doubt.
-use Rattle.std.proofs.Common.{◌≡◌, ◌⊎◌, ℕ, pos, true, false, List, [], ◌∷◌, refl, sym, subst, inl, inr, true≢false, Some, None, Ok, Err, arith}
+use Rattle.std.proofs.Common.{◌≡◌, ◌⊎◌, ℕ, pos, true, false, List, [], ◌∷◌, refl, sym, subst, inl, inr, true≢false, Option, Some, None, Ok, Err, arith}
 use Rattle.mc_text.specs.Routes.{Route}
 use Rattle.tree_trait.specs.declared.file_system.FileSystem.{FileSystem}
 use Rattle.tree_trait.specs.declared.calls.TreeError.TheVariants as refused
@@ -31,6 +31,9 @@ use Rattle.copy_move.specs.declared.work.Work.TheVariants.{Delete}
 use Rattle.copy_move.specs.declared.run.Course.{Course}
 use Rattle.copy_move.specs.declared.run.Course.TheVariants.{GoesOn, InTrouble, Ends}
 use Rattle.job_reports.specs.Jobs as jobs
+use Rattle.job_reports.specs.Jobs.{ItemOfJob}
+use Rattle.session_entries.specs.LiveJobs.{live_item, live_jobs}
+use Rattle.laws_sessions.specs.OwnPaths.{IsOfAnother}
 use Rattle.job_reports.specs.Stops.{trouble_at}
 use Rattle.copy_move.specs.Jobs.{Running, halt_of}
 use Rattle.mode_job.specs.SettingSteps.{sync_of}
@@ -385,9 +388,15 @@ first_change = record {
   within = refl;
 }
 
+-- the job that named the first file last has ended
+no_other : IsOfAnother 2 settled_entries the_file → ⊥
+no_other o =
+    let one : 1 ≡ o.other = (let named : Some 1 ≡ Some o.other = o.named in cc) in
+    let gone : (let none : Option ItemOfJob = None in none) ≡ Some o.item = subst (λ n. live_item n (live_jobs settled_entries) ≡ Some o.item) (sym one) o.lives in cc
+
 -- then the first file is in doubt no more, as the law says
 calmed : name_waits (log_prefix (log []) 5 changed_log) the_file ≡ true → ⊥
-calmed waits = by ((calm_law (log []) changed_log changed_entries (stand (changed ∷ []) ([] ∷ [])) small_tree refl changed_traced).names change settled_entries [] the_file first_change (inl (refl, refl, refl)) waits)
+calmed waits = by ((calm_law (log []) changed_log changed_entries (stand (changed ∷ []) ([] ∷ [])) small_tree refl changed_traced).names change settled_entries [] the_file first_change (inl (refl, refl, refl)) no_other waits)
   where
     by : (changes_name (Removed another) the_file ≡ true) ⊎ ((name_waits (log_prefix (log []) 4 changed_log) the_file ≡ true) × IsApart (log_prefix (log []) 4 changed_log) [] []) → ⊥
     by (inl named) = true≢false (sym named)

@@ -116,6 +116,7 @@ module _ (told : HistoryFacts) (dirty dirty_after : List Route) (marks : Marks) 
           kind_same log (Makes f name made) j (found_there (current log) kept.known.guarded.tree c.target j before) ∙ as_it_was.bare j before;
       was = λ out. as_it_was.was (sym (ap (λ b. b || marks.aside c.target) (apart_of c.target free.free.apart)) ∙ out) ∙ sym (off c.target free.free.apart);
       stood = λ is. ap is_some (off c.target free.free.apart) ∙ as_it_was.stood (sym (ap (λ b. b || marks.aside c.target) (apart_of c.target free.free.apart)) ∙ is);
+      calm = λ j at. as_it_was.calm j (sym (off c.target free.free.apart) ∙ at);
     };
   }
 
@@ -144,11 +145,11 @@ module _ (told : HistoryFacts) (dirty dirty_after : List Route) (marks : Marks) 
       (subst (λ (l : CallLog). IsKnown after_said dirty_after (marks_new marks part n) l) (sym d.is)
       (made_known told dirty dirty_after marks log kept.known name up f made kept.roams makes refl new_mode around own around_firm firm own_calm listed more))
       (subst (λ (l : CallLog). FileKnows after_said dirty_after (settled_marks l (marks_new marks part n)) (current l) GoesOn (record c { stage = Fill part said 0; folder = Dirty })) (sym d.is)
-      (target_name, (λ e. (listed, or_left _ _ (or_right _ _ (same_path-self up)), or_left _ _ own_here)), (refl, (n, part_settled after (marks_new marks part n) after_said c.target part n has, λ e. filled))))
+      (target_name, (λ e. (listed, or_left _ _ (or_right _ _ (same_path-self up)))), (refl, (n, part_settled after (marks_new marks part n) after_said c.target part n has, λ e. filled))))
 
 -- bytes are written behind the first
 module _ (told : HistoryFacts) (dirty : List Route) (marks : Marks) (log now : CallLog) (kept : IsKept told dirty marks log) (c : Copying) (part : Route) (said : SourceFacts) (done : ℕ)
-    (listed : c.folder ≡ Dirty → Among dirty (folder_of c.target) × (told.folders (folder_of c.target) ≡ true) × (told.calm (folder_of c.target) ≡ true)) (target_name : HasName c.target) (i : ℕ) (has : HasPart told marks (current log) c.target part i)
+    (listed : c.folder ≡ Dirty → Among dirty (folder_of c.target) × (told.folders (folder_of c.target) ≡ true)) (target_name : HasName c.target) (i : ℕ) (has : HasPart told marks (current log) c.target part i)
     (filled : IsFilled (current log) c.source part said done i) (few : done + length (next_bytes (current log) c.source said done) ≤ said.size)
     (d : IsDoneCall log (writing (current log) (places_of c) part said done) now) (dirty_is : c.folder ≡ Dirty) where
   abbrev bytes : List ℕ

@@ -39,7 +39,7 @@ use Rattle.copy_move.specs.Settling.{changed_folder}
 use Rattle.job_reports.specs.Paths.{folder_of, without}
 use Rattle.copy_move.specs.JobStepReports.{SyncsOwed}
 use Rattle.laws_sessions.specs.Doubt.{name_waits}
-use Rattle.laws_sessions.specs.Staying.{may_change}
+use Rattle.laws_sessions.proofs.OwnFolders.{may_change}
 use Rattle.session_entries.specs.Named.{begins_change, changed_after, has_changed, names}
 use Rattle.session_entries.specs.LiveJobs.{live_item, live_jobs}
 use Rattle.session_entries.specs.Entries.{is_closed}

@@ -134,7 +134,7 @@ has_finished = record {
   ended = refl;
   changed = refl;
   its = refl;
-  within = refl;
+  own = inl refl;
 }
 
 stays_gone : (image : FileSystem) → IsCrashImage finished_log 6 image → value_at image another ≡ None

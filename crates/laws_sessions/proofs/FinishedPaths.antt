@@ -1,4 +1,4 @@
--- A finished job has left no path of its own in doubt.
+-- A finished job has left no path in doubt that it may change.
 use Rattle.std.proofs.Common.{◌≡◌, ◌⊎◌, ℕ, Bool, true, false, not, List, [], ◌∷◌, ◌++◌, refl, sym, ◌∙◌, ap, subst, inl, inr, Option, Some, None}
 use Rattle.std.specs.Prelude.{◌||◌}
 use Rattle.std.specs.Option.{option_map_or}
@@ -40,8 +40,7 @@ use Rattle.copy_move.specs.Settling.{WorkLeaves, changed_folder, is_own}
 use Rattle.job_reports.specs.Paths.{folder_of}
 use Rattle.copy_move.specs.JobStepReports.{LeavesDirty, Walks, WalksOn}
 use Rattle.laws_sessions.specs.Doubt.{IsMountInDoubt, is_unsettled, name_waits, node_waits, way_waits}
-use Rattle.laws_sessions.specs.Owed.{FinishedLaw, IsNoMatter, is_own_path}
-use Rattle.laws_sessions.specs.Staying.{may_change}
+use Rattle.laws_sessions.proofs.OwnFolders.{IsNoMatter, is_own_path, may_change}
 use Rattle.session_entries.specs.Named.{has_changed, named_parts}
 use Rattle.laws_sessions.specs.Traces.{IsTraced, IsUnclaimed, Stand, WorkLeads}
 use Rattle.tree_trait.specs.Refusals.{is_folder}
@@ -256,7 +255,7 @@ module _ (opening now : CallLog) (newest : List Entry) (stand : Stand) (path : R
   -- what is known of a copy or a move when it ends
   abbrev IsWhole : Work → Type 0
   IsWhole (Copy c) = TreeLeft (told_of opening now newest seen.part) seen.marks now c
-  IsWhole (Move m) = HasName m.pair.source × (HasName m.pair.target × (((movings.owes_target m.stage ≡ false) × (movings.is_dirty m.stage ≡ false)) × IsMovedIn (told_of opening now newest seen.part) seen.marks now m))
+  IsWhole (Move m) = HasName m.pair.source × (HasName m.pair.target × ((movings.is_dirty m.stage ≡ false) × IsMovedIn (told_of opening now newest seen.part) seen.marks now m))
   IsWhole work = Unit {0}
 
   left_by : (work : Work) → way_waits now (changed_folder work) ≡ false → (knows_calm work ≡ false → (q : Route) → is_own work q ≡ true → Among stand.dirty q → ⊥) → IsSureThing (item_in work) now
@@ -283,11 +282,11 @@ whole_left told dirty dirty_after marks log now job new part c is on knows tidy 
     by calls f0 f1 known begun x goes = absurd goes
 
 -- and of a move that was renamed
-done_moving : (stage : MovingStage) → movings.is_done stage ≡ true → is_moved stage ≡ true → (movings.owes_target stage ≡ false) × (movings.is_dirty stage ≡ false)
+done_moving : (stage : MovingStage) → movings.is_done stage ≡ true → is_moved stage ≡ true → movings.is_dirty stage ≡ false
 done_moving moving.Take done moved = absurd (false≢true done)
 done_moving moving.SyncTarget done moved = absurd (false≢true done)
 done_moving moving.SyncSource done moved = absurd (false≢true done)
-done_moving moving.Finish done moved = (refl, refl)
+done_moving moving.Finish done moved = refl
 done_moving moving.PassedOver done moved = absurd (false≢true moved)
 
 move_done : (replies : Replies) (m : Moving) (work : Work) (part : Option Route) → WorkTells replies (Move m) (Ended Finished part) work → movings.is_done m.stage ≡ true
@@ -295,15 +294,17 @@ move_done replies m (Move new) part (is_done, part_is, new_is) = is_done
 move_done replies m work part t = absurd t
 
 moved_left : (told : HistoryFacts) (dirty dirty_after : List Route) (marks : Marks) (log now : CallLog) (job new : Running) (part : Option Route) (m : Moving) → job.work ≡ Move m → job.course ≡ GoesOn → WorkKnows told dirty marks log job.course job.work
-    → TidyFolder job.work dirty → WorkLeads job (Ended Finished part) new dirty dirty_after log now → HasName m.pair.source × (HasName m.pair.target × (((movings.owes_target m.stage ≡ false) × (movings.is_dirty m.stage ≡ false)) × IsMovedIn told marks log m))
+    → TidyFolder job.work dirty → WorkLeads job (Ended Finished part) new dirty dirty_after log now → HasName m.pair.source × (HasName m.pair.target × ((movings.is_dirty m.stage ≡ false) × IsMovedIn told marks log m))
 moved_left told dirty dirty_after marks log now job new part m is on knows tidy works =
     let known : MoveKnown told marks log GoesOn m = subst (λ x. WorkKnows told dirty marks log GoesOn x) is (subst (λ x. WorkKnows told dirty marks log x job.work) on knows) in
     let renamed : is_moved m.stage ≡ true = subst (λ x. TidyFolder x dirty) is tidy in
     let tells : TellsOn GoesOn job (Ended Finished part) new = subst (λ x. TellsOn x job (Ended Finished part) new) on works.tells in
     (known.source, (known.target, (done_moving m.stage (move_done job.replies m tells.0 part (subst (λ x. WorkTells job.replies x (Ended Finished part) tells.0) is tells.1)) renamed, known.moved refl renamed)))
 
-pub finished_law : FinishedLaw
-finished_law opening now after newest stand dirty job new part path tree settled traced jobs_is works changed own =
+pub paths_left : (opening now after : CallLog) (newest : List Entry) (stand : Stand) (dirty : List Route) (job new : Running) (part : Option Route) (path : Route) → IsTree (current opening) → all_settled opening.changes ≡ true → IsTraced opening newest stand now
+    → stand.jobs ≡ job ∷ [] → WorkLeads job (Ended Finished part) new stand.dirty dirty now after → has_changed job.id newest ≡ true → is_own_path job.work path ≡ true
+    → (way_waits now path ≡ false) × ((Among (named_parts newest) path → ⊥) → (IsNoMatter job.work now path → ⊥) → is_unsettled now path ≡ false)
+paths_left opening now after newest stand dirty job new part path tree settled traced jobs_is works changed own =
     left_by opening now newest stand path tree settled traced job.work firm.sure left.2 (tidy.sure changed) (tidy.calm changed) (whole job.work refl) own
   where
     r : IsReached opening newest stand now

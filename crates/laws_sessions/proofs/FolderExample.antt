@@ -22,7 +22,8 @@ use Rattle.session_entries.specs.declared.history.JobOrder.TheVariants.{Answered
 use Rattle.delete_job.specs.Deletions.{RefusedFile}
 use Rattle.copy_move.specs.declared.run.Course.TheVariants.{GoesOn}
 use Rattle.copy_move.specs.declared.work.Work.TheVariants.{Delete}
-use Rattle.laws_sessions.specs.Staying.{HasFinished, may_change_path}
+use Rattle.laws_sessions.specs.Staying.{HasFinished}
+use Rattle.laws_sessions.specs.Touched.{touches}
 use Rattle.laws_sessions.specs.Traces.{IsTraced, nothing_live}
 use Rattle.laws_sessions.proofs.Done.{done_law}
 use Rattle.laws_sessions.proofs.ExampleParts.{entry, file, known_is, own_step, stand}
@@ -147,8 +148,8 @@ ended_entries = entry 3 Closed ∷ finished_entries
 ended_traced : IsTraced (log []) ended_entries (stand [] []) synced_log
 ended_traced = (stand [] [], synced_log, finished_traced, record { after = stand [] []; leads = record { after_is = refl; now_is = refl }; stand_is = refl; counts = refl })
 
-abbrev has_finished : (path : Route) → may_change_path (jobs.Removes top) path ≡ true → HasFinished end synced_entries path
-has_finished path within = record { id = 1; item = jobs.Removes top; ended = refl; changed = refl; its = refl; within = within }
+abbrev has_finished : (path : Route) → touches (jobs.Removes top) path ≡ true → HasFinished end synced_entries path
+has_finished path own = record { id = 1; item = jobs.Removes top; ended = refl; changed = refl; its = refl; own = inl own }
 
 stays_gone : (image : FileSystem) → IsCrashImage synced_log 3 image → value_at image first ≡ None
 stays_gone image left =

@@ -124,7 +124,7 @@ module _ (told : HistoryFacts) (dirty : List Route) (marks : Marks) (log : CallL
   closed_know (job ∷ []) k = work_course told dirty marks log job.course (closed_course job.course) job.work (closed_by job.course) (closed_over job.course) k
   closed_know (job ∷ other ∷ jobs) k = absurd k
 
-order_same : (id : ℕ) (order : JobOrder) (job : Running) → IsSame job (ordered_job id order job)
+pub order_same : (id : ℕ) (order : JobOrder) (job : Running) → IsSame job (ordered_job id order job)
 order_same id (Answered answer) job = by (job.id == id)
   where
     by : (b : Bool) → IsSame job (if◌then◌else◌ b (answered_job answer job) job)

@@ -1,5 +1,5 @@
 -- What is known of a part that stands, and of the copy of a file or a link that has it.
-use Rattle.std.proofs.Common.{◌≡◌, ℕ, ◌≤◌, Bool, true, false, ◌&&◌, ◌||◌, List, ◌∷◌, length, take, refl, sym, ◌∙◌, ap, Some, None, cond}
+use Rattle.std.proofs.Common.{◌≡◌, ℕ, ◌≤◌, Bool, true, false, ◌&&◌, ◌||◌, List, ◌∷◌, length, take, refl, sym, ◌∙◌, ap, Option, Some, None, cond}
 use Rattle.std.specs.Prelude.{is_some}
 use Rattle.std.proofs.lemmas.Bool.{true≢false}
 use Rattle.mc_text.specs.declared.kind.Kind.TheVariants.{File, Link}
@@ -8,7 +8,7 @@ use Rattle.tree_trait.specs.declared.file_system.FileSystem.{FileSystem}
 use Rattle.tree_trait.specs.FileSystem.{find, node}
 use Rattle.tree_trait.specs.Refusals.{folder_kind, is_folder}
 use Rattle.tree_trait.specs.Change.{CallLog, current}
-use Rattle.tree_trait.specs.CrashImages.{Among}
+use Rattle.tree_trait.specs.CrashImages.{Among, is_clean}
 use Rattle.laws_crash.specs.Guarded.{Marks}
 use Rattle.copy_file.specs.declared.stage.FolderState.TheVariants.{Dirty}
 use Rattle.copy_file.specs.declared.stage.SourceFacts.{SourceFacts}
@@ -71,10 +71,10 @@ StageKnows told marks s course c (Clean part follows) = (c.folder ≡ Dirty) × 
 StageKnows told marks s course c (Left part) = (i : ℕ) × HasPart told marks s c.target part i
 StageKnows told marks s course c Decided = told.part ≡ None
 
--- what is known of a file's copy: its folder is listed from its first change on, and on the disk, and no mode waits in it
+-- what is known of a file's copy: its folder is listed from its first change on, and on the disk
 abbrev pub FileKnows : HistoryFacts → List Route → Marks → FileSystem → Course → Copying → Type 0
 FileKnows told dirty marks s course c =
-    HasName c.target × (c.folder ≡ Dirty → Among dirty (folder_of c.target) × (told.folders (folder_of c.target) ≡ true) × (told.calm (folder_of c.target) ≡ true)) × StageKnows told marks s course c c.stage
+    HasName c.target × (c.folder ≡ Dirty → Among dirty (folder_of c.target) × (told.folders (folder_of c.target) ≡ true)) × StageKnows told marks s course c c.stage
 
 -- The part of a link stands beside the target, and leads to a link that says this, which is on the disk but for its name.
 pub record HasLink (said : HistoryFacts) (marks : Marks) (s : FileSystem) (target part : Route) (text : List ℕ) (i : ℕ) : Type 0 where
@@ -104,7 +104,6 @@ pub record LinkKnows (told : HistoryFacts) (dirty : List Route) (marks : Marks) 
   pub name : HasName target
   pub listed : Among dirty (folder_of target)
   pub folder : told.folders (folder_of target) ≡ true
-  pub calm : told.calm (folder_of target) ≡ true
   pub text : List ℕ
   pub i : ℕ
   pub has : HasLink told marks s target part text i
@@ -134,8 +133,12 @@ module _ (log : CallLog) (marks : Marks) where
   first_of true b h = refl
   first_of false b h = h
 
+  none_still : (b : Bool) (o : Option ℕ) → o ≡ None → cond b (let none : Option ℕ = None in none) o ≡ None
+  none_still true o none = refl
+  none_still false o none = none
+
   pub found_settled : (p : Route) → IsAsFound marks (current log) p → IsAsFound (settled_marks log marks) (current log) p
-  found_settled p u = record { bare = u.bare; was = λ out. by (marks.aside p) refl (way_waits log p) refl out; stood = λ is. u.stood (first_of (marks.aside p) (way_waits log p || is_some (find (current log) p)) is) }
+  found_settled p u = record { bare = u.bare; was = λ out. by (marks.aside p) refl (way_waits log p) refl out; stood = λ is. u.stood (first_of (marks.aside p) (way_waits log p || is_some (find (current log) p)) is); calm = λ i at. none_still (is_clean i log.changes) (marks.modes i) (u.calm i at) }
     where
       by : (a : Bool) → marks.aside p ≡ a → (b : Bool) → way_waits log p ≡ b → (marks.aside p && (way_waits log p || is_some (find (current log) p))) ≡ false
           → cond (way_waits log p) (marks.was p) (find (current log) p) ≡ find (current log) p
@@ -183,7 +186,7 @@ module _ (log : CallLog) (marks : Marks) where
 
   pub link_knows_settled : (told : HistoryFacts) (dirty : List Route) (source target part : Route) → LinkKnows told dirty marks (current log) source target part → LinkKnows told dirty (settled_marks log marks) (current log) source target part
   link_knows_settled told dirty source target part k =
-      record { name = k.name; listed = k.listed; folder = k.folder; calm = k.calm; text = k.text; i = k.i; has = link_settled told target part k.text k.i k.has; copies = k.copies }
+      record { name = k.name; listed = k.listed; folder = k.folder; text = k.text; i = k.i; has = link_settled told target part k.text k.i k.has; copies = k.copies }
 
 -- a job that goes on only where it went on knows what it knew
 pub stage_course : (told : HistoryFacts) (marks : Marks) (s : FileSystem) (course other : Course) (c : Copying) (stage : Stage) → (may_fill other ≡ true → may_fill course ≡ true) → StageKnows told marks s course c stage → StageKnows told marks s other c stage
@@ -243,12 +246,12 @@ module _ (told other : HistoryFacts) (part_same : other.part ≡ told.part) (mar
   stage_said course c (Left part) (i, has) = (i, part_said c.target part i has)
   stage_said course c Decided none = part_same ∙ none
 
--- What is known of a copy hangs on the folders on the disk and the calm folders, too.
-module _ (told other : HistoryFacts) (part_same : other.part ≡ told.part) (folders_same : other.folders ≡ told.folders) (calm_same : other.calm ≡ told.calm) (marks : Marks) (s : FileSystem) where
+-- What is known of a copy hangs on the folders on the disk, too.
+module _ (told other : HistoryFacts) (part_same : other.part ≡ told.part) (folders_same : other.folders ≡ told.folders) (marks : Marks) (s : FileSystem) where
   pub file_said : (dirty : List Route) (course : Course) (c : Copying) → FileKnows told dirty marks s course c → FileKnows other dirty marks s course c
   file_said dirty course c (name, listed, stage) = (
     name,
-    (λ is. let l = listed is in (l.0, ap (λ b. b (folder_of c.target)) folders_same ∙ l.1, ap (λ b. b (folder_of c.target)) calm_same ∙ l.2)),
+    (λ is. let l = listed is in (l.0, ap (λ b. b (folder_of c.target)) folders_same ∙ l.1)),
     stage_said told other part_same marks s course c c.stage stage,
   )
 
@@ -257,7 +260,6 @@ module _ (told other : HistoryFacts) (part_same : other.part ≡ told.part) (fol
     name = k.name;
     listed = k.listed;
     folder = ap (λ b. b (folder_of target)) folders_same ∙ k.folder;
-    calm = ap (λ b. b (folder_of target)) calm_same ∙ k.calm;
     text = k.text;
     i = k.i;
     has = (let h = k.has in record {

@@ -37,6 +37,7 @@ pub mod Filling
 pub mod Finished
 pub mod FinishedExample
 pub mod FinishedMoves
+pub mod FinishedOwn
 pub mod FinishedPaths
 pub mod FolderExample
 pub mod FolderExampleSteps
@@ -89,11 +90,14 @@ pub mod NameLaws
 pub mod NameMarks
 pub mod NameRuns
 pub mod NameSteps
+pub mod NameWaits
 pub mod Names
 pub mod OpenFolders
 pub mod OpenTargets
 pub mod OwedModes
 pub mod Owing
+pub mod OwnFolders
+pub mod OwnParts
 pub mod PathsBelow
 pub mod PartMade
 pub mod PartNodes

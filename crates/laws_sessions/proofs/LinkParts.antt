@@ -105,5 +105,6 @@ module _ (told : HistoryFacts) (dirty dirty_after : List Route) (marks : Marks) 
           kind_same log (Makes f name made) j (found_there (current log) kept.known.guarded.tree target j before) ∙ as_it_was.bare j before;
       was = λ out. as_it_was.was (sym (ap (λ b. b || marks.aside target) apart_of) ∙ out) ∙ sym off;
       stood = λ is. ap is_some off ∙ as_it_was.stood (sym (ap (λ b. b || marks.aside target) apart_of) ∙ is);
+      calm = λ j at. as_it_was.calm j (sym off ∙ at);
     };
   }

@@ -39,7 +39,7 @@ use Rattle.make_job.specs.NewThings.{making_call}
 use Rattle.copy_move.specs.Jobs.{course_after}
 use Rattle.copy_move.specs.Settling.{with_change as moves_dirty}
 use Rattle.laws_sessions.specs.Replayed.{made_by}
-use Rattle.laws_sessions.specs.Staying.{may_change}
+use Rattle.laws_sessions.proofs.OwnFolders.{may_change}
 use Rattle.laws_sessions.proofs.Calming.{refused_is, still_listed}
 use Rattle.laws_sessions.proofs.Changing.{seen_nowhere}
 use Rattle.laws_sessions.proofs.Deleted.{comes_refused, either, put_at, put_off}

@@ -124,7 +124,7 @@ turned_traced = (
 )
 
 abbrev is_done : HasFinished turn synced_entries the_file
-is_done = record { id = 1; item = jobs.Sets the_file mode; ended = refl; changed = refl; its = refl; within = refl }
+is_done = record { id = 1; item = jobs.Sets the_file mode; ended = refl; changed = refl; its = refl; own = inl refl }
 
 -- then the first one's mode is there after any crash
 stays_set : (image : FileSystem) → IsCrashImage synced_log 2 image → value_at image the_file ≡ Some (value (with_mode mode file))

@@ -1,12 +1,13 @@
--- What is known of a move, by where it stands: of what was renamed, both folders.
+-- What is known of a move, by where it stands: of what was renamed, its two names.
 use Rattle.std.proofs.Common.{◌≡◌, ◌⊎◌, ℕ, Bool, true, false, List, [], ◌∷◌, ◌++◌, refl, sym, ◌∙◌, ap, subst, inl, inr, Option, Some, None, cond}
 use Rattle.std.specs.Option.{option_and_then, option_map_or}
-use Rattle.std.proofs.lemmas.Bool.{both_ways, false_from_ne_true}
+use Rattle.std.specs.Prelude.{is_some}
+use Rattle.std.proofs.lemmas.Bool.{both_ways, false_from_ne_true, true≢false}
 use Rattle.mc_text.specs.Routes.{Route, same_path}
 use Rattle.tree_trait.specs.declared.file_system.FileSystem.{FileSystem}
 use Rattle.tree_trait.specs.FileSystem.{find, lookup}
 use Rattle.tree_trait.specs.Change.{Change, Nothing, Syncs, CallLog, current, with_change}
-use Rattle.tree_trait.specs.CrashImages.{is_clean}
+use Rattle.tree_trait.specs.CrashImages.{is_clean, says}
 use Rattle.laws_crash.specs.Guarded.{Marks}
 use Rattle.laws_crash.proofs.Leading.{current_more}
 use Rattle.job_reports.specs.declared.job.Pair.{Pair}
@@ -14,10 +15,11 @@ use Rattle.job_reports.specs.Paths.{folder_of}
 use Rattle.copy_move.specs.declared.run.Course.{Course}
 use Rattle.move_job.specs.declared.moving.MovingStage.{MovingStage}
 use Rattle.move_job.specs.declared.moving.MovingStage.TheVariants.{Take, SyncTarget, SyncSource, Finish, PassedOver}
-use Rattle.move_job.specs.Movings.{Moving, is_dirty, owes_target}
+use Rattle.move_job.specs.Movings.{Moving, is_dirty}
 use Rattle.laws_sessions.specs.Doubt.{is_joint, is_pending, joins, name_waits}
 use Rattle.laws_sessions.proofs.AtRest.{RestsBelow}
-use Rattle.laws_sessions.proofs.Knowing.{IsCalmIn, HistoryFacts, settled_marks}
+use Rattle.laws_sessions.proofs.Knowing.{HistoryFacts, settled_marks}
+use Rattle.laws_sessions.proofs.NameWaits.{NameWaits, waits_none, waits_still}
 use Rattle.laws_sessions.proofs.KnownParts.{HasName}
 use Rattle.laws_sessions.proofs.Restless.{is_restless, joint_less, names_in, restless_less}
 use Rattle.laws_sessions.proofs.TreeKnown.{IsStill, is_over}
@@ -31,18 +33,23 @@ is_moved SyncSource = true
 is_moved Finish = true
 is_moved PassedOver = false
 
--- Both folders stand on the disk, no mode waits in either, and renamings wait for them and each other alone. One that is not dirty any more is at rest. Nothing waits
--- of what was moved, and of what lies in it; and where it was nothing stands.
+-- the folders that are still to be synced once the thing was renamed, by where the move stands: the target's, and then the source's
+abbrev pub owed_nodes : MovingStage → ℕ → ℕ → List ℕ
+owed_nodes Take f g = []
+owed_nodes SyncTarget f g = g ∷ f ∷ []
+owed_nodes SyncSource f g = f ∷ []
+owed_nodes Finish f g = []
+owed_nodes PassedOver f g = []
+
+-- Both folders stand on the disk. Each of the two names waits for the syncs that are still owed, and for no other. Nothing waits of what was moved, and of what lies in
+-- it; and where it was nothing stands. Of what else lies in the two folders this says nothing.
 pub record IsMovedIn (told : HistoryFacts) (marks : Marks) (log : CallLog) (m : Moving) : Type 0 where
   pub f : ℕ
   pub g : ℕ
   pub from : find (current log) (folder_of m.pair.source) ≡ Some f
   pub to : find (current log) (folder_of m.pair.target) ≡ Some g
-  pub joined : (h k : ℕ) → (h ≡ f) ⊎ (h ≡ g) → is_joint h k log.changes ≡ true → (k ≡ f) ⊎ (k ≡ g)
-  pub target_rests : owes_target m.stage ≡ false → is_restless g log.changes ≡ false
-  pub source_rests : is_dirty m.stage ≡ false → is_restless f log.changes ≡ false
-  pub calm_from : IsCalmIn marks (current log) (folder_of m.pair.source)
-  pub calm_to : IsCalmIn marks (current log) (folder_of m.pair.target)
+  pub source_waits : (name : List ℕ) → m.pair.source ≡ name ∷ folder_of m.pair.source → NameWaits log f name (owed_nodes m.stage f g)
+  pub target_waits : (name : List ℕ) → m.pair.target ≡ name ∷ folder_of m.pair.target → NameWaits log g name (owed_nodes m.stage f g)
   pub rests : RestsBelow marks log m.pair.target
   pub gone : find (current log) m.pair.source ≡ None
   pub told_from : told.folders (folder_of m.pair.source) ≡ true
@@ -73,11 +80,8 @@ moved_same told marks log m new pair stage h = record {
   g = h.g;
   from = ap (λ (p : Pair). find (current log) (folder_of p.source)) pair ∙ h.from;
   to = ap (λ (p : Pair). find (current log) (folder_of p.target)) pair ∙ h.to;
-  joined = h.joined;
-  target_rests = λ owes. h.target_rests (sym (ap owes_target stage) ∙ owes);
-  source_rests = λ clean. h.source_rests (sym (ap is_dirty stage) ∙ clean);
-  calm_from = subst (λ (p : Pair). IsCalmIn marks (current log) (folder_of p.source)) (sym pair) h.calm_from;
-  calm_to = subst (λ (p : Pair). IsCalmIn marks (current log) (folder_of p.target)) (sym pair) h.calm_to;
+  source_waits = λ name is. subst (λ x. NameWaits log h.f name (owed_nodes x h.f h.g)) (sym stage) (h.source_waits name (subst (λ (p : Pair). p.source ≡ name ∷ folder_of p.source) pair is));
+  target_waits = λ name is. subst (λ x. NameWaits log h.g name (owed_nodes x h.f h.g)) (sym stage) (h.target_waits name (subst (λ (p : Pair). p.target ≡ name ∷ folder_of p.target) pair is));
   rests = subst (λ (p : Pair). RestsBelow marks log p.target) (sym pair) h.rests;
   gone = ap (λ (p : Pair). find (current log) p.source) pair ∙ h.gone;
   told_from = ap (λ (p : Pair). told.folders (folder_of p.source)) pair ∙ h.told_from;
@@ -89,9 +93,6 @@ module _ (log : CallLog) (marks : Marks) where
   no_mode : (i : ℕ) (b : Bool) → marks.modes i ≡ None → cond b (let o : Option ℕ = None in o) (marks.modes i) ≡ None
   no_mode i true none = refl
   no_mode i false none = none
-
-  pub calm_settled : (up : Route) → IsCalmIn marks (current log) up → IsCalmIn (settled_marks log marks) (current log) up
-  calm_settled up calm name i at = elim (calm name i at) [ inl none ↦ inl (no_mode i (is_clean i log.changes) none) | inr begins ↦ inr begins ]
 
   pub below_settled : (top : Route) → RestsBelow marks log top → RestsBelow (settled_marks log marks) log top
   below_settled top h = record {
@@ -107,11 +108,8 @@ module _ (log : CallLog) (marks : Marks) where
     g = h.g;
     from = h.from;
     to = h.to;
-    joined = h.joined;
-    target_rests = h.target_rests;
-    source_rests = h.source_rests;
-    calm_from = calm_settled (folder_of m.pair.source) h.calm_from;
-    calm_to = calm_settled (folder_of m.pair.target) h.calm_to;
+    source_waits = h.source_waits;
+    target_waits = h.target_waits;
     rests = below_settled m.pair.target h.rests;
     gone = h.gone;
     told_from = h.told_from;
@@ -156,40 +154,42 @@ module _ (told : HistoryFacts) (marks : Marks) (log : CallLog) (c : Change) (sam
           ap (λ x. option_map_or (λ g. is_pending g name now.changes) x false) (ap (λ (s : FileSystem). find s (rest ++ top)) same ∙ at)
           ∙ unpending f name (h.still rest f at) (λ g. h.apart rest f g at)
 
-  -- at a later stage, too, where the folders that are then to be at rest are
-  pub moved_on : (m new : Moving) → new.pair ≡ m.pair → (h : IsMovedIn told marks log m) → (owes_target new.stage ≡ false → is_restless (let x : IsMovedIn told marks log m = h in x.g) now.changes ≡ false)
-      → (is_dirty new.stage ≡ false → is_restless (let x : IsMovedIn told marks log m = h in x.f) now.changes ≡ false) → IsMovedIn told marks now new
-  moved_on m new pair h target_rests source_rests = record {
+  -- at a later stage, too, where its two names wait for no more than what is owed then
+  pub moved_on : (m new : Moving) → new.pair ≡ m.pair → (h : IsMovedIn told marks log m)
+      → ((name : List ℕ) → m.pair.source ≡ name ∷ folder_of m.pair.source → NameWaits now (let x : IsMovedIn told marks log m = h in x.f) name (owed_nodes new.stage (let x : IsMovedIn told marks log m = h in x.f) (let x : IsMovedIn told marks log m = h in x.g)))
+      → ((name : List ℕ) → m.pair.target ≡ name ∷ folder_of m.pair.target → NameWaits now (let x : IsMovedIn told marks log m = h in x.g) name (owed_nodes new.stage (let x : IsMovedIn told marks log m = h in x.f) (let x : IsMovedIn told marks log m = h in x.g)))
+      → IsMovedIn told marks now new
+  moved_on m new pair h source_waits target_waits = record {
     f = h.f;
     g = h.g;
     from = ap (λ (s : FileSystem). find s (folder_of new.pair.source)) same ∙ (ap (λ (p : Pair). find (current log) (folder_of p.source)) pair ∙ h.from);
     to = ap (λ (s : FileSystem). find s (folder_of new.pair.target)) same ∙ (ap (λ (p : Pair). find (current log) (folder_of p.target)) pair ∙ h.to);
-    joined = λ i k either joint. h.joined i k either (joint_on i k joint);
-    target_rests = target_rests;
-    source_rests = source_rests;
-    calm_from = subst (λ (s : FileSystem). IsCalmIn marks s (folder_of new.pair.source)) (sym same) (subst (λ (p : Pair). IsCalmIn marks (current log) (folder_of p.source)) (sym pair) h.calm_from);
-    calm_to = subst (λ (s : FileSystem). IsCalmIn marks s (folder_of new.pair.target)) (sym same) (subst (λ (p : Pair). IsCalmIn marks (current log) (folder_of p.target)) (sym pair) h.calm_to);
+    source_waits = λ name is. source_waits name (subst (λ (p : Pair). p.source ≡ name ∷ folder_of p.source) pair is);
+    target_waits = λ name is. target_waits name (subst (λ (p : Pair). p.target ≡ name ∷ folder_of p.target) pair is);
     rests = subst (λ (p : Pair). RestsBelow marks now p.target) (sym pair) (below_on m.pair.target h.rests);
     gone = ap (λ (s : FileSystem). find s new.pair.source) same ∙ (ap (λ (p : Pair). find (current log) p.source) pair ∙ h.gone);
     told_from = ap (λ (p : Pair). told.folders (folder_of p.source)) pair ∙ h.told_from;
     told_to = ap (λ (p : Pair). told.folders (folder_of p.target)) pair ∙ h.told_to;
   }
 
-  pub move_on : (course : Course) (m : Moving) → MoveKnown told marks log course m → MoveKnown told marks now course m
-  move_on course m k = record {
+  pub move_on : ((f : ℕ) (name : List ℕ) → is_some (says c 0 f name) ≡ false) → (course : Course) (m : Moving) → MoveKnown told marks log course m → MoveKnown told marks now course m
+  move_on silent course m k = record {
     source = k.source;
     target = k.target;
     none = k.none;
     other = k.other;
-    moved = λ on is. let h = k.moved on is in moved_on m m refl h (λ owes. rests_on h.g (h.target_rests owes)) (λ clean. rests_on h.f (h.source_rests clean));
+    moved = λ on is.
+        let h = k.moved on is in
+        moved_on m m refl h (λ name at. waits_still h.f name log c (owed_nodes m.stage h.f h.g) (silent h.f name) (h.source_waits name at))
+        (λ name at. waits_still h.g name log c (owed_nodes m.stage h.f h.g) (silent h.g name) (h.target_waits name at));
   }
 
 pub move_still : (told : HistoryFacts) (marks : Marks) (log later : CallLog) (course : Course) (m : Moving) → IsStill log later → MoveKnown told marks log course m → MoveKnown told marks later course m
 move_still told marks log later course m (c, is, how) k = subst (λ (l : CallLog). MoveKnown told marks l course m) (sym is) (by c how)
   where
     by : (c : Change) → (c ≡ Nothing) ⊎ ((f : ℕ) × (c ≡ Syncs f)) → MoveKnown told marks (with_change log c) course m
-    by c (inl none) = subst (λ (x : Change). MoveKnown told marks (with_change log x) course m) (sym none) (move_on told marks log Nothing (current_more log Nothing) (λ f. refl) (λ f g. refl) course m k)
-    by c (inr (f, sync)) = subst (λ (x : Change). MoveKnown told marks (with_change log x) course m) (sym sync) (move_on told marks log (Syncs f) (current_more log (Syncs f)) (λ h. refl) (λ h g. refl) course m k)
+    by c (inl none) = subst (λ (x : Change). MoveKnown told marks (with_change log x) course m) (sym none) (move_on told marks log Nothing (current_more log Nothing) (λ f. refl) (λ f g. refl) (λ f name. refl) course m k)
+    by c (inr (f, sync)) = subst (λ (x : Change). MoveKnown told marks (with_change log x) course m) (sym sync) (move_on told marks log (Syncs f) (current_more log (Syncs f)) (λ h. refl) (λ h g. refl) (λ h name. refl) course m k)
 
 -- it hangs on the part and the folders on the disk of what a history says
 pub move_said : (told other : HistoryFacts) → other.part ≡ told.part → other.folders ≡ told.folders → (marks : Marks) (log : CallLog) (course : Course) (m : Moving) → MoveKnown told marks log course m → MoveKnown other marks log course m
@@ -205,11 +205,8 @@ move_said told other part folders marks log course m k = record {
         g = h.g;
         from = h.from;
         to = h.to;
-        joined = h.joined;
-        target_rests = h.target_rests;
-        source_rests = h.source_rests;
-        calm_from = h.calm_from;
-        calm_to = h.calm_to;
+        source_waits = h.source_waits;
+        target_waits = h.target_waits;
         rests = h.rests;
         gone = h.gone;
         told_from = ap (λ (b : Route → Bool). b (folder_of m.pair.source)) folders ∙ h.told_from;
@@ -217,23 +214,23 @@ move_said told other part folders marks log course m k = record {
       };
 }
 
--- Where both folders are at rest no name of either waits.
-module _ (told : HistoryFacts) (marks : Marks) (log : CallLog) (m : Moving) (h : IsMovedIn told marks log m) (target_over : owes_target m.stage ≡ false) (source_over : is_dirty m.stage ≡ false) where
-  rests : (k : ℕ) → (k ≡ h.f) ⊎ (k ≡ h.g) → is_restless k log.changes ≡ false
-  rests k (inl same) = subst (λ j. is_restless j log.changes ≡ false) (sym same) (h.source_rests source_over)
-  rests k (inr same) = subst (λ j. is_restless j log.changes ≡ false) (sym same) (h.target_rests target_over)
+-- where no sync is owed any more
+none_owed : (stage : MovingStage) (f g : ℕ) → is_dirty stage ≡ false → owed_nodes stage f g ≡ []
+none_owed Take f g clean = refl
+none_owed SyncTarget f g clean = absurd (true≢false clean)
+none_owed SyncSource f g clean = absurd (true≢false clean)
+none_owed Finish f g clean = refl
+none_owed PassedOver f g clean = refl
 
-  none_pending : (k : ℕ) (name : List ℕ) → (k ≡ h.f) ⊎ (k ≡ h.g) → is_pending k name log.changes ≡ false
-  none_pending k name either = false_from_ne_true _ (λ waits. elim (waits_for k name log.changes waits) [
-    | inl own ↦ both_ways _ (rests k either) own
-    | inr other ↦ both_ways _ (rests other.0 (h.joined k other.0 either other.1)) other.2
-  ])
+-- So once both folders were synced neither of the two names waits.
+module _ (told : HistoryFacts) (marks : Marks) (log : CallLog) (m : Moving) (h : IsMovedIn told marks log m) (clean : is_dirty m.stage ≡ false) where
+  pub source_settled : HasName m.pair.source → name_waits log m.pair.source ≡ false
+  source_settled has = ap (name_waits log) has.is ∙ (ap (λ o. option_map_or (λ k. is_pending k has.name log.changes) o false) h.from
+      ∙ waits_none h.f has.name log (subst (NameWaits log h.f has.name) (none_owed m.stage h.f h.g clean) (h.source_waits has.name has.is)))
 
-  pub none_waits_from : (name : List ℕ) → name_waits log (name ∷ folder_of m.pair.source) ≡ false
-  none_waits_from name = ap (λ o. option_map_or (λ k. is_pending k name log.changes) o false) h.from ∙ none_pending h.f name (inl refl)
-
-  pub none_waits_to : (name : List ℕ) → name_waits log (name ∷ folder_of m.pair.target) ≡ false
-  none_waits_to name = ap (λ o. option_map_or (λ k. is_pending k name log.changes) o false) h.to ∙ none_pending h.g name (inr refl)
+  pub target_settled : HasName m.pair.target → name_waits log m.pair.target ≡ false
+  target_settled has = ap (name_waits log) has.is ∙ (ap (λ o. option_map_or (λ k. is_pending k has.name log.changes) o false) h.to
+      ∙ waits_none h.g has.name log (subst (NameWaits log h.g has.name) (none_owed m.stage h.f h.g clean) (h.target_waits has.name has.is)))
 
 -- Nothing stands below a path where nothing stands, and so no name waits there.
 none_below : (s : FileSystem) (top rest : Route) → find s top ≡ None → find s (rest ++ top) ≡ None

@@ -27,7 +27,7 @@ use Rattle.job_unsynced.specs.Folders.{joined_folders}
 use Rattle.move_job.specs.declared.moving.MovingStage.{MovingStage}
 use Rattle.move_job.specs.declared.moving.MovingStage.TheVariants.{Take, SyncTarget, SyncSource, Finish, PassedOver}
 use Rattle.move_job.specs.Takings.{MayMove}
-use Rattle.move_job.specs.Movings.{LastMovingCalls, Moving, MovingCalls, MovingLeaves, Stops, Tells, Winds, after_sync, after_target, is_dirty, is_fresh, owed_folder, owed_in, owes_target, skipped_stage, with_moves}
+use Rattle.move_job.specs.Movings.{LastMovingCalls, Moving, MovingCalls, MovingLeaves, Stops, Tells, Winds, after_sync, after_target, is_dirty, is_fresh, owed_folder, owed_in, skipped_stage, with_moves}
 use Rattle.copy_move.specs.declared.work.Work.{Work}
 use Rattle.copy_move.specs.declared.work.Work.TheVariants.{Move}
 use Rattle.copy_move.specs.declared.run.Course.{Course}
@@ -42,10 +42,10 @@ use Rattle.laws_sessions.proofs.Deleted.{comes_refused}
 use Rattle.laws_sessions.proofs.DeletionSteps.{Steps, ends, joined_holds, joined_more, stands, tried}
 use Rattle.laws_sessions.proofs.JobKnows.{NoneOver, WorkKnows, none_left, none_over}
 use Rattle.laws_sessions.proofs.Knowing.{IsKept, IsKnown, HistoryFacts}
-use Rattle.laws_sessions.proofs.MoveKnown.{IsMovedIn, MoveKnown, is_moved, move_at, move_course, move_settled, moved_on, moved_same, rests_on}
+use Rattle.laws_sessions.proofs.MoveKnown.{IsMovedIn, MoveKnown, is_moved, move_at, move_course, move_settled, moved_on, moved_same, owed_nodes}
 use Rattle.laws_sessions.proofs.MovingThings.{pair_of, said_thing_moved}
 use Rattle.laws_sessions.proofs.RenamingThings.{thing_moves}
-use Rattle.laws_sessions.proofs.Restless.{is_restless, restless_synced}
+use Rattle.laws_sessions.proofs.NameWaits.{NameWaits, waits_once, waits_synced}
 use Rattle.laws_sessions.proofs.Stepped.{StepRan, comes_one, said_after}
 use Rattle.laws_sessions.proofs.ThingRests.{source_rests}
 use Rattle.laws_sessions.proofs.TreeKnown.{is_over}
@@ -110,19 +110,15 @@ module _ (told : HistoryFacts) (dirty dirty_after : List Route) (marks : Marks) 
 
   -- what is known at a later stage, after that sync
   synced_knows : (i : ℕ) (w new : Moving) (stage : MovingStage) → new ≡ record w { stage = stage } → MoveKnown told marks log GoesOn w → (h : IsMovedIn told marks log w)
-      → (owes_target stage ≡ false → is_restless (let x : IsMovedIn told marks log w = h in x.g) (log.changes ++ Syncs i ∷ []) ≡ false)
-      → (is_dirty stage ≡ false → is_restless (let x : IsMovedIn told marks log w = h in x.f) (log.changes ++ Syncs i ∷ []) ≡ false) → MoveKnown told marks (with_change log (Syncs i)) GoesOn new
-  synced_knows i w new stage is k h target source = subst (λ (x : Moving). MoveKnown told marks (with_change log (Syncs i)) GoesOn x) (sym is) (record {
+      → ((j : ℕ) (name : List ℕ) → NameWaits log j name (owed_nodes w.stage (let x : IsMovedIn told marks log w = h in x.f) (let x : IsMovedIn told marks log w = h in x.g))
+      → NameWaits (with_change log (Syncs i)) j name (owed_nodes stage (let x : IsMovedIn told marks log w = h in x.f) (let x : IsMovedIn told marks log w = h in x.g))) → MoveKnown told marks (with_change log (Syncs i)) GoesOn new
+  synced_knows i w new stage is k h to = subst (λ (x : Moving). MoveKnown told marks (with_change log (Syncs i)) GoesOn x) (sym is) (record {
     source = k.source;
     target = k.target;
     none = k.none;
     other = k.other;
-    moved = λ on moved. moved_on told marks log (Syncs i) (current_more log (Syncs i)) (λ j. refl) (λ j l. refl) w (record w { stage = stage }) refl h target source;
+    moved = λ on moved. moved_on told marks log (Syncs i) (current_more log (Syncs i)) (λ j. refl) (λ j l. refl) w (record w { stage = stage }) refl h (λ name at. to h.f name (h.source_waits name at)) (λ name at. to h.g name (h.target_waits name at));
   })
-
-  -- what a sync leaves at rest, or left so before
-  rests_then : (i j : ℕ) → is_restless j log.changes ≡ false → is_restless j (log.changes ++ Syncs i ∷ []) ≡ false
-  rests_then i j rests = rests_on told marks log (Syncs i) (current_more log (Syncs i)) (λ l. refl) (λ l n. refl) j rests
 
   -- The target's folder was synced; where it holds both names, so was the other.
   target_synced : (w new : Moving) → w.stage ≡ SyncTarget → new ≡ record w { stage = after_target w.pair } → MoveKnown told marks log GoesOn w → Performs {A = Unit {0}} log (SyncFolder (folder_of w.pair.target)) (Ok tt) (Some now)
@@ -135,15 +131,16 @@ module _ (told : HistoryFacts) (dirty dirty_after : List Route) (marks : Marks) 
       by : (b : Bool) → same_path (folder_of w.pair.target) (folder_of w.pair.source) ≡ b → StepRan told told dirty_after log now (λ m. MoveKnown told m now GoesOn new)
       by false apart =
           move_synced (folder_of w.pair.target) h.g new h.to done (leaves ∙ ap (λ b. with_moves SyncTarget (if◌then◌else◌ b Finish SyncSource) w.pair dirty) apart)
-          (synced_knows h.g w new SyncSource (new_is ∙ ap (λ b. (let x : Moving = record w { stage = if◌then◌else◌ b Finish SyncSource } in x)) apart) k h (λ over. restless_synced h.g log.changes) (λ over. absurd (true≢false over)))
+          (synced_knows h.g w new SyncSource (new_is ∙ ap (λ b. (let x : Moving = record w { stage = if◌then◌else◌ b Finish SyncSource } in x)) apart) k h
+          (λ j name waits. waits_synced j name log h.g (h.f ∷ []) (subst (λ x. NameWaits log j name (owed_nodes x h.f h.g)) at waits)))
       by true same =
           let alike = same_path-true (folder_of w.pair.target) (folder_of w.pair.source) same in
           let one : h.g ≡ h.f = some_is h.f h.g (sym h.from ∙ (ap (find (current log)) (sym alike) ∙ h.to)) in
           move_synced (folder_of w.pair.target) h.g new h.to done
           (leaves ∙ (ap (λ b. with_moves SyncTarget (if◌then◌else◌ b Finish SyncSource) w.pair dirty) same
           ∙ (ap (λ up. without up (without (folder_of w.pair.target) dirty)) (sym alike) ∙ without_twice (folder_of w.pair.target) dirty)))
-          (synced_knows h.g w new Finish (new_is ∙ ap (λ b. (let x : Moving = record w { stage = if◌then◌else◌ b Finish SyncSource } in x)) same) k h (λ over. restless_synced h.g log.changes)
-          (λ over. subst (λ j. is_restless j (log.changes ++ Syncs h.g ∷ []) ≡ false) one (restless_synced h.g log.changes)))
+          (synced_knows h.g w new Finish (new_is ∙ ap (λ b. (let x : Moving = record w { stage = if◌then◌else◌ b Finish SyncSource } in x)) same) k h
+          (λ j name waits. waits_once j name log h.g (subst (λ l. NameWaits log j name (h.g ∷ l ∷ [])) (sym one) (subst (λ x. NameWaits log j name (owed_nodes x h.f h.g)) at waits))))
 
   -- and then the source's
   source_synced : (w new : Moving) → w.stage ≡ SyncSource → new ≡ record w { stage = Finish } → MoveKnown told marks log GoesOn w → Performs {A = Unit {0}} log (SyncFolder (folder_of w.pair.source)) (Ok tt) (Some now)
@@ -151,7 +148,7 @@ module _ (told : HistoryFacts) (dirty dirty_after : List Route) (marks : Marks) 
   source_synced w new at new_is k done leaves =
       let h = k.moved refl (ap is_moved at) in
       move_synced (folder_of w.pair.source) h.f new h.from done leaves
-      (synced_knows h.f w new Finish new_is k h (λ over. rests_then h.f h.g (h.target_rests (ap owes_target at))) (λ over. restless_synced h.f log.changes))
+      (synced_knows h.f w new Finish new_is k h (λ j name waits. waits_synced j name log h.f [] (subst (λ x. NameWaits log j name (owed_nodes x h.f h.g)) at waits)))
 
   folder_synced : (w new : Moving) (stage : MovingStage) → w.stage ≡ stage → is_dirty stage ≡ true → new ≡ record w { stage = after_sync w.pair stage } → MoveKnown told marks log GoesOn w
       → Performs {A = Unit {0}} log (SyncFolder (owed_in w.pair stage)) (Ok tt) (Some now) → dirty_after ≡ with_moves stage (after_sync w.pair stage) w.pair dirty → StepRan told told dirty_after log now (λ m. MoveKnown told m now GoesOn new)

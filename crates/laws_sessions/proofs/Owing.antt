@@ -2,7 +2,7 @@
 use Rattle.std.proofs.Common.{◌≡◌, ◌⊎◌, ℕ, Bool, true, false, List, [], ◌∷◌, ◌++◌, refl, sym, ◌∙◌, ap, subst, inl, inr, Option, Some, None}
 use Rattle.std.specs.Prelude.{filter, if◌then◌else◌, not}
 use Rattle.std.specs.Option.{option_map_or}
-use Rattle.std.proofs.lemmas.Bool.{both_ways, false≢true, or_left, or_right}
+use Rattle.std.proofs.lemmas.Bool.{both_ways, false≢true}
 use Rattle.mc_text.specs.Routes.{Route, same_path}
 use Rattle.tree_trait.specs.FileSystem.{find, starts_mount, visible_tree}
 use Rattle.tree_trait.specs.Change.{CallLog, current}
@@ -10,36 +10,24 @@ use Rattle.tree_trait.specs.CrashImages.{Among, all_settled, is_clean}
 use Rattle.tree_trait.specs.Shape.{IsTree}
 use Rattle.tree_trait.proofs.Finding.{find-once}
 use Rattle.laws_crash.specs.Guarded.{Marks}
-use Rattle.job_answers.specs.declared.replies.Replies.{Replies}
 use Rattle.job_reports.specs.Paths.{folder_of}
 use Rattle.job_reports.proofs.PermittedCalls.{stat_missing}
 use Rattle.copy_move.specs.declared.work.Work.{Work}
-use Rattle.copy_move.specs.declared.work.Work.TheVariants.{Copy, Delete, Make, Move, SetMode, RemoveEmptied}
-use Rattle.delete_job.specs.Deletions.{DeletionLeaves, Tells}
-use Rattle.make_job.specs.Makings as makings
-use Rattle.move_job.specs.Movings as movings
-use Rattle.emptied_job.specs.Removals as removals
-use Rattle.mode_job.specs.Settings as settings
-use Rattle.copy_move.specs.Jobs.{WorkTells}
-use Rattle.copy_move.specs.Settling.{NoneOwed, WorkLeaves, changed_folder, is_own, with_change}
+use Rattle.copy_move.specs.Settling.{NoneOwed, changed_folder, with_change}
 use Rattle.copy_move.specs.MountNumbers.{LiesApart}
-use Rattle.job_reports.specs.declared.report.Did.{Did}
-use Rattle.job_reports.specs.declared.report.Did.TheVariants.{Began, Chunk, Placed, Removed, Made, Set, Kept, Skipped, Cleaned, Barrier, Asked, Merges, Moved, Troubled, Ended}
 use Rattle.job_unsynced.specs.Folders.{is_one_of, joined_folders}
 use Rattle.tree_trait.specs.declared.file_system.FileSystem.{FileSystem}
 use Rattle.tree_trait.specs.declared.calls.TreeError.TheVariants.{Missing}
 use Rattle.tree_trait.specs.Calls.{Stat}
 use Rattle.tree_trait.specs.Answers.{mount_number}
 use Rattle.tree_trait.specs.Refusals.{mount_of, refusal_of}
-use Rattle.tree_trait.proofs.Visible.{same_path-self}
 use Rattle.laws_sessions.specs.Doubt.{is_pending, name_waits, node_waits}
-use Rattle.laws_sessions.specs.Owed.{IsOwed, OwedLaw, StepLaw, waits_in}
+use Rattle.laws_sessions.specs.Owed.{IsOwed, OwedLaw, StepLaw}
 use Rattle.laws_sessions.specs.ApartFolders.{IsApart}
 use Rattle.laws_sessions.specs.Traces.{IsTraced, Stand}
 use Rattle.session_entries.specs.Named.{named_parts}
 use Rattle.session_entries.specs.declared.history.Entry.{Entry}
 use Rattle.laws_sessions.proofs.Histories.{IsReached, traced_reached}
-use Rattle.laws_sessions.proofs.Intact.{own_folder}
 use Rattle.laws_sessions.proofs.Knowing.{IsKnown, HistoryFacts, clean_now, mode_waits}
 use Rattle.laws_sessions.proofs.Prefixes.{calm_told}
 use Rattle.laws_sessions.proofs.Resting.{IsBeside}
@@ -154,71 +142,6 @@ changed_or_before false true up q dirty among = in_joined up q dirty among
 changed_or_before true false up q dirty among = inr (in_filter (λ kept. not (same_path kept up)) q dirty among)
 changed_or_before false false up q dirty among = inr among
 changed_or_before true true up q dirty among = inr among
-
--- what is dirty after a step was dirty, or it is a folder of the job's own, of a move one of its two
-pub own_or_before : (replies : Replies) (old next new : Work) (did : Did) (q : Route) (dirty dirty_after : List Route) (before after : Option CallLog) → WorkTells replies old did next → WorkLeaves old did new dirty dirty_after before after → Among dirty_after q
-    → (waits_in old q ≡ true) ⊎ Among dirty q
-own_or_before replies (SetMode s) next (SetMode new) did q dirty dirty_after before after t leaves among =
-    elim (changed_or_before (settings.is_dirty s.stage) (settings.is_dirty new.stage) s.path q dirty (subst (λ xs. Among xs q) leaves among)) [
-      | inl same ↦ inl (subst (λ p. same_path p s.path ≡ true) (sym same) (same_path-self s.path))
-      | inr old ↦ inr old
-    ]
-own_or_before replies (Copy c) next (Copy new) did q dirty dirty_after before after t leaves among =
-    elim (changed_or_before leaves.was leaves.now leaves.folder q dirty (subst (λ xs. Among xs q) leaves.list among)) [
-      | inl same ↦ inl (subst (λ p. is_own (Copy c) p ≡ true) (sym same) leaves.own)
-      | inr old ↦ inr old
-    ]
-own_or_before replies (Make m) next (Make new) did q dirty dirty_after before after t leaves among =
-    elim (changed_or_before (makings.is_dirty m.stage) (makings.is_dirty new.stage) (folder_of m.path) q dirty (subst (λ xs. Among xs q) leaves among)) [
-      | inl same ↦ inl (subst (λ p. same_path p (folder_of m.path) ≡ true) (sym same) (same_path-self (folder_of m.path)))
-      | inr old ↦ inr old
-    ]
-own_or_before replies (Move m) next (Move new) did q dirty dirty_after before after t leaves among =
-    elim (changed_or_before (movings.is_dirty m.stage) (movings.is_dirty new.stage) (folder_of m.pair.source) q with_target (subst (λ xs. Among xs q) leaves among)) [
-      | inl same ↦ inl (or_left _ _ (subst (λ p. same_path p (folder_of m.pair.source) ≡ true) (sym same) (same_path-self (folder_of m.pair.source))))
-      | inr old ↦ elim (changed_or_before (movings.owes_target m.stage) (movings.owes_target new.stage) (folder_of m.pair.target) q dirty old) [
-        | inl same ↦ inl (or_right _ _ (subst (λ p. same_path p (folder_of m.pair.target) ≡ true) (sym same) (same_path-self (folder_of m.pair.target))))
-        | inr older ↦ inr older
-      ]
-    ]
-  where
-    with_target : List Route
-    with_target = with_change (movings.owes_target m.stage) (movings.owes_target new.stage) (folder_of m.pair.target) dirty
-own_or_before replies (Delete d) (Delete next) (Delete new) did q dirty dirty_after before after t leaves among = by did t leaves
-  where
-    by : (did : Did) → Tells replies d did next → DeletionLeaves d did dirty dirty_after before after → (is_own (Delete d) q ≡ true) ⊎ Among dirty q
-    by (Removed path) (going, within, at) (inl h) = elim (in_joined (folder_of path) q dirty (subst (λ xs. Among xs q) h.0 among)) [ inl same ↦ inl (own_folder d path q within same) | inr old ↦ inr old ]
-    by (Removed path) (going, within, at) (inr h) =
-        elim (in_joined (folder_of path) q dirty (in_filter (λ kept. not (same_path kept path)) q (joined_folders (folder_of path) dirty) (subst (λ xs. Among xs q) h.0 among))) [
-          | inl same ↦ inl (own_folder d path q within same)
-          | inr old ↦ inr old
-        ]
-    by Barrier t (folder, own, left, called) = inr (in_filter (λ kept. not (same_path kept folder)) q dirty (subst (λ xs. Among xs q) left among))
-    by (Kept path) t h = inr (subst (λ xs. Among xs q) h among)
-    by (Asked question) t h = inr (subst (λ xs. Among xs q) h among)
-    by (Merges transfer pair names) t h = inr (subst (λ xs. Among xs q) h among)
-    by (Moved pair) t h = inr (subst (λ xs. Among xs q) h among)
-    by (Troubled trouble) t h = inr (subst (λ xs. Among xs q) h among)
-    by (Ended ending part) t h = inr (subst (λ xs. Among xs q) h.1 among)
-    by (Began part) t h = absurd t
-    by (Chunk count) t h = absurd t
-    by (Set path) t h = absurd t
-    by (Placed path) t h = absurd t
-    by (Made path) t h = absurd t
-    by (Skipped path why) t h = inr (subst (λ xs. Among xs q) h among)
-    by (Cleaned part) t h = absurd t
-own_or_before replies (RemoveEmptied r) next (RemoveEmptied new) did q dirty dirty_after before after t leaves among =
-    elim (changed_or_before (removals.is_dirty r.stage) (removals.is_dirty new.stage) (folder_of r.path) q dirty (subst (λ xs. Among xs q) leaves among)) [
-      | inl same ↦ inl (subst (λ p. same_path p (folder_of r.path) ≡ true) (sym same) (same_path-self (folder_of r.path)))
-      | inr old ↦ inr old
-    ]
-own_or_before replies (Delete d) (Delete next) (Copy new) did q dirty dirty_after before after t leaves among = absurd leaves
-own_or_before replies (Delete d) (Delete next) (Make new) did q dirty dirty_after before after t leaves among = absurd leaves
-own_or_before replies (Delete d) (Delete next) (Move new) did q dirty dirty_after before after t leaves among = absurd leaves
-own_or_before replies (Delete d) (Delete next) (SetMode new) did q dirty dirty_after before after t leaves among = absurd leaves
-own_or_before replies (Delete d) (Delete next) (RemoveEmptied new) did q dirty dirty_after before after t leaves among = absurd leaves
-own_or_before replies (Delete d) next new did q dirty dirty_after before after t leaves among = absurd t
-own_or_before replies old next new did q dirty dirty_after before after t leaves among = absurd leaves
 
 pub step_law : StepLaw
 step_law job new did calls dirty dirty_after log now faults faults_after (inl own) = inl (

@@ -49,7 +49,7 @@ module _ (told : HistoryFacts) (dirty : List Route) (marks : Marks) (log : CallL
     name = has.name;
     beside = has.beside;
     apart = has.apart;
-    found = let u = has.found in record { bare = still_bare u.bare; was = λ out. u.was out ∙ sym (same_quiet log c none target); stood = λ is. ap is_some (same_quiet log c none target) ∙ u.stood is };
+    found = let u = has.found in record { bare = still_bare u.bare; was = λ out. u.was out ∙ sym (same_quiet log c none target); stood = λ is. ap is_some (same_quiet log c none target) ∙ u.stood is; calm = λ j at. u.calm j (sym (same_quiet log c none target) ∙ at) };
   }
     where
       still_bare : IsBare (current log) target → IsBare (current (with_change log c)) target

@@ -3,7 +3,7 @@ use Rattle.laws_sessions.proofs.AmongParts.{if_among_in, if_among_more}
 use Rattle.std.proofs.Common.{◌≡◌, ◌⊎◌, ℕ, ◌<◌, zero, suc, Bool, true, false, List, [], ◌∷◌, ◌++◌, take, refl, sym, ◌∙◌, ap, subst, inl, inr, Option, Some, None, Ok, arith}
 use Rattle.std.specs.Prelude.{◌==◌, unwrap_or, if◌then◌else◌}
 use Rattle.std.specs.Option.{option_map, option_map_or}
-use Rattle.std.proofs.lemmas.Bool.{both_ways, false_from_ne_true, eqb-true, eq-eqb, or_left, or_right}
+use Rattle.std.proofs.lemmas.Bool.{false_from_ne_true, eqb-true, eq-eqb, or_left, or_right}
 use Rattle.std.proofs.Math.Seq.{take-length}
 use Rattle.mc_text.specs.Routes.{Route, same_path}
 use Rattle.tree_trait.specs.declared.file_system.Node.{Node}
@@ -198,7 +198,7 @@ said_placed told source to target = record {
 }
 
 -- it is renamed to a path that lies at or below that target, and holds what stands where this comes from
-module _ (told : HistoryFacts) (dirty : List Route) (source to target : Route) (tname : List ℕ) (target_is : target ≡ tname ∷ folder_of target) (part : Route) (i : ℕ) (listed : Among dirty (folder_of target)) (firm : told.folders (folder_of target) ≡ true) (calm : told.calm (folder_of target) ≡ true)
+module _ (told : HistoryFacts) (dirty : List Route) (source to target : Route) (tname : List ℕ) (target_is : target ≡ tname ∷ folder_of target) (part : Route) (i : ℕ) (listed : Among dirty (folder_of target)) (firm : told.folders (folder_of target) ≡ true)
     (marks : Marks) (mid now : CallLog) (kept : IsKept told dirty marks mid) (whole : IsWhole told marks mid target part i)
     (copy : option_map placed_copy (told.tree (moved_from source to target)).value ≡ Some (value (node (current mid) i))) (done : Performs {A = Unit {0}} mid (Rename part target) (Ok tt) (Some now)) where
   abbrev up : Route
@@ -269,10 +269,7 @@ module _ (told : HistoryFacts) (dirty : List Route) (source to target : Route) (
 
   -- nor does a mode of it wait
   calm_there : (j : ℕ) → find (current mid) target ≡ Some j → marks.modes j ≡ None
-  calm_there j at = elim (let still = kept.known.calm up calm in still.modes tname j (ap (find (current mid)) (sym target_is) ∙ at)) [
-    | inl none ↦ none
-    | inr begins ↦ absurd (both_ways _ (file_no_mount (current mid) kept.known.guarded.tree j (as_it_was.bare j at)) begins)
-  ]
+  calm_there = as_it_was.calm
 
   bare : is_folder (node (current mid) i) ≡ false
   bare = whole.bare
@@ -342,7 +339,7 @@ module _ (told : HistoryFacts) (dirty : List Route) (source to target : Route) (
       refl
 
 -- A file's part is placed by the copy of a source to a target, in which the file's target comes from the file's source.
-module _ (told : HistoryFacts) (dirty : List Route) (source to : Route) (c : Copying) (source_is : moved_from source to c.target ≡ c.source) (tname : List ℕ) (target_is : c.target ≡ tname ∷ folder_of c.target) (part : Route) (i : ℕ) (listed : Among dirty (folder_of c.target)) (firm : told.folders (folder_of c.target) ≡ true) (calm : told.calm (folder_of c.target) ≡ true) where
+module _ (told : HistoryFacts) (dirty : List Route) (source to : Route) (c : Copying) (source_is : moved_from source to c.target ≡ c.source) (tname : List ℕ) (target_is : c.target ≡ tname ∷ folder_of c.target) (part : Route) (i : ℕ) (listed : Among dirty (folder_of c.target)) (firm : told.folders (folder_of c.target) ≡ true) where
   abbrev said_then : HistoryFacts
   said_then = said_placed told source to c.target
 
@@ -353,7 +350,7 @@ module _ (told : HistoryFacts) (dirty : List Route) (source to : Route) (c : Cop
   renamed : (marks : Marks) (mid now : CallLog) → IsKept told dirty marks mid → HasPart told marks (current mid) c.target part i → IsFirm told dirty c.target part i marks mid
       → option_map placed_copy (told.tree c.source).value ≡ Some (value (node (current mid) i)) → Performs {A = Unit {0}} mid (Rename part c.target) (Ok tt) (Some now) → Placing mid now
   renamed marks mid now kept has clean copy done =
-      whole_placed told dirty source to c.target tname target_is part i listed firm calm marks mid now kept (whole_part told marks mid c.target part i has clean)
+      whole_placed told dirty source to c.target tname target_is part i listed firm marks mid now kept (whole_part told marks mid c.target part i has clean)
       (ap (λ q. option_map placed_copy (told.tree q).value) source_is ∙ copy) done
 
   -- the sync and the renaming were done

@@ -1,7 +1,8 @@
 -- A job renames a thing: what it finds then lets it be moved, and what is known afterwards.
-use Rattle.std.proofs.Common.{◌≡◌, ◌⊎◌, ℕ, Bool, true, false, List, ◌∷◌, refl, sym, ◌∙◌, ap, subst, inl, inr, Option, Some, None, Ok}
-use Rattle.std.specs.Prelude.{◌==◌, ◌&&◌, if◌then◌else◌, not}
-use Rattle.std.proofs.lemmas.Bool.{true≢false, both_ways, eqb-true, or_cases, or_left, or_right}
+use Rattle.std.proofs.Common.{◌≡◌, ℕ, Bool, true, false, List, [], ◌∷◌, refl, sym, ◌∙◌, ap, subst, inl, inr, Option, Some, None, Ok}
+use Rattle.std.specs.Prelude.{◌&&◌, if◌then◌else◌, not}
+use Rattle.std.specs.Option.{option_map_or}
+use Rattle.std.proofs.lemmas.Bool.{both_ways, or_left, or_right}
 use Rattle.mc_text.specs.Routes.{Route, is_prefix, same_path}
 use Rattle.tree_trait.specs.FileSystem.{find, node}
 use Rattle.tree_trait.specs.Calls.{Rename}
@@ -15,20 +16,19 @@ use Rattle.job_reports.proofs.CallAnswers.{IsDoneCall, done_call}
 use Rattle.session_entries.specs.Moves.{is_of_move}
 use Rattle.move_job.specs.declared.moving.MovingStage.TheVariants.{SyncTarget}
 use Rattle.move_job.specs.Movings.{Moving}
-use Rattle.laws_sessions.specs.Doubt.{is_joint, way_waits}
+use Rattle.laws_sessions.specs.Doubt.{is_pending, way_waits}
 use Rattle.laws_sessions.proofs.AtRest.{RestsBelow}
 use Rattle.laws_sessions.proofs.Changing.{off_itself, some_none}
 use Rattle.laws_sessions.proofs.Deleted.{file_no_mount}
-use Rattle.laws_sessions.proofs.JobKnows.{NoneOn, NoneOver, modes_in, none_joint, none_waits, over_it, way_sure}
-use Rattle.laws_sessions.proofs.Knowing.{IsCalmIn, IsKept, IsKnown, HistoryFacts, settled_marks}
+use Rattle.laws_sessions.proofs.JobKnows.{NoneOn, NoneOver, modes_in, none_waits, over_it, way_sure}
+use Rattle.laws_sessions.proofs.Knowing.{IsKept, IsKnown, HistoryFacts, settled_marks}
 use Rattle.laws_sessions.proofs.MoveKnown.{IsMovedIn, moved_settled}
-use Rattle.laws_sessions.proofs.MovedTree.{MovesThing, source_gone, source_stands, target_stands, where_was}
+use Rattle.laws_sessions.proofs.MovedTree.{MovesThing, source_gone, source_stands, target_stands}
 use Rattle.laws_sessions.proofs.MovingThings.{CanMoveThing, marks_moving, pair_of, said_thing_moved, thing_moved_known, thing_rests}
 use Rattle.laws_sessions.proofs.PathsBelow.{is_below}
-use Rattle.laws_sessions.proofs.Quiet.{starts_same}
 use Rattle.laws_sessions.proofs.Renamings.{IsRenaming, renaming_passes}
 use Rattle.laws_sessions.proofs.Resting.{sure_path}
-use Rattle.laws_sessions.proofs.Restless.{joint_less, named_both, names_in}
+use Rattle.laws_sessions.proofs.NameWaits.{NameWaits, waits_renamed}
 use Rattle.laws_sessions.proofs.Stepped.{StepRan, comes_one}
 
 -- A thing is renamed, a folder where nothing stands; nothing waits in it, and nothing is dirty on the mounts of both folders, nor on those of the folders on the way to them.
@@ -128,20 +128,10 @@ module _ (told : HistoryFacts) (dirty dirty_after : List Route) (marks : Marks) 
     mount = can.no_mount;
   }
 
-  -- no renaming waited for either folder
-  apart : (h k : ℕ) → (h ≡ f) ⊎ (h ≡ g) → is_joint h k log.changes ≡ false
-  apart h k (inl e) = none_joint told dirty marks log from kept.known none_from h k (passes.from_at ∙ ap (λ j. Some j) (sym e))
-  apart h k (inr e) = none_joint told dirty marks log to kept.known none_to h k (passes.to_at ∙ ap (λ j. Some j) (sym e))
-
-  of_named : (k : ℕ) → names_in k moves ≡ true → (k ≡ f) ⊎ (k ≡ g)
-  of_named k named = elim (or_cases (f == k) (g == k) named) [ inl e ↦ inl (sym (eqb-true f k e)) | inr e ↦ inr (sym (eqb-true g k e)) ]
-
-  -- nor waits a mode in them then
-  calm_then : (up : Route) → IsCalmIn marks (current log) up → IsCalmIn roaming (current moved_log) up
-  calm_then up calm name k at = elim (where_was log old from new to f g i r thing (name ∷ up) k at) [
-    | inl off ↦ elim (calm name k off.2) [ inl still ↦ inl still | inr begins ↦ inr (starts_same log moves k ∙ begins) ]
-    | inr went ↦ inl (rests.modes went.0 k went.2)
-  ]
+  -- neither name waited
+  waits_then : (k : ℕ) (up : Route) (name : List ℕ) → find (current log) up ≡ Some k → NoneOn (current log) up dirty → NameWaits moved_log k name (g ∷ f ∷ [])
+  waits_then k up name at off =
+      waits_renamed k name log f g i old new r (sym (ap (λ o. option_map_or (λ j. is_pending j name log.changes) o false) at) ∙ none_waits told dirty marks log up kept.known off name)
 
   moved_in : IsMovedIn after roaming moved_log renamed
   moved_in = record {
@@ -149,14 +139,8 @@ module _ (told : HistoryFacts) (dirty dirty_after : List Route) (marks : Marks) 
     g = g;
     from = source_stands log old from new to f g i r thing;
     to = target_stands log old from new to f g i r thing;
-    joined = λ h k either joint. elim (joint_less h k log.changes moves joint) [
-      | inl before ↦ absurd (both_ways _ (apart h k either) before)
-      | inr joined ↦ of_named k (named_both h k moves joined).1
-    ];
-    target_rests = λ over. absurd (true≢false over);
-    source_rests = λ over. absurd (true≢false over);
-    calm_from = calm_then from (modes_in told dirty marks log kept from none_from);
-    calm_to = calm_then to (modes_in told dirty marks log kept to none_to);
+    source_waits = λ name is. waits_then f from name passes.from_at none_from;
+    target_waits = λ name is. waits_then g to name passes.to_at none_to;
     rests = thing_rests told dirty marks log kept old from new to f g i r can;
     gone = source_gone log old from new to f g i r thing;
     told_from = or_right (told.folders from && not (is_of_move (pair_of (old ∷ from) (new ∷ to)) from)) _ (or_left (same_path from from) (same_path from to) (same_path-self from));

@@ -16,7 +16,7 @@ use Rattle.make_job.specs.declared.new_thing.NewThing.{NewThing}
 use Rattle.make_job.specs.declared.new_thing.NewThing.TheVariants as thing
 use Rattle.copy_move.specs.declared.work.Work.{Work}
 use Rattle.copy_move.specs.Jobs.{Running, first_work}
-use Rattle.session_entries.specs.LiveJobs.{LiveJob, after_report}
+use Rattle.session_entries.specs.LiveJobs.{LiveJob, after_report, live_item}
 use Rattle.laws_sessions.specs.Traces.{before_others, unless_ended, with_job}
 use Rattle.laws_sessions.proofs.Knowing.{HistoryFacts}
 use Rattle.laws_sessions.proofs.JobKnows.{HasName, KnowsAfter, WorkKnows}
@@ -38,6 +38,12 @@ HasLive live (job ∷ other ∷ jobs) part = ⊥
 
 same_id : (id : ℕ) → (id == id) ≡ true
 same_id id = eq-eqb id id refl
+
+-- the item that the history tells of a job is that of the live one
+pub told_item : (job : Running) (live : List LiveJob) (part : Option Route) (item : ItemOfJob) → HasLive live (job ∷ []) part → live_item job.id live ≡ Some item → item_in job.work ≡ item
+told_item job live part item is its =
+    let first : Some (item_in job.work) ≡ Some item =
+    sym (ap (λ b. if◌then◌else◌ b (Some (item_in job.work)) None) (same_id job.id)) ∙ (sym (ap (live_item job.id) is) ∙ its) in cc
 
 pub with_one : (job : Running) (new : Option Running) → with_job job.id new (job ∷ []) ≡ before_others new []
 with_one job new = ap (λ b. if◌then◌else◌ b (before_others new []) (job ∷ [])) (same_id job.id)

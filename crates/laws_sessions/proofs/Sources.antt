@@ -34,7 +34,7 @@ use Rattle.mode_job.specs.Settings.{Setting}
 use Rattle.mode_job.specs.Settings as settings
 use Rattle.copy_move.specs.Jobs.{PassesOver, Running, JobTells, TellsOn, WorkTells, WorkWinds, answered_job, answered_on, copies, deletes, first_work, makes, moves, removes_emptied, sets, taken_anew}
 use Rattle.copy_move.specs.Settling.{changed_folder}
-use Rattle.laws_sessions.specs.Staying.{may_change}
+use Rattle.laws_sessions.proofs.OwnFolders.{may_change}
 
 -- what is made at a path
 abbrev pub making_item : NewThing → Route → ItemOfJob

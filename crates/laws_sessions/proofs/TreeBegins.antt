@@ -25,7 +25,7 @@ use Rattle.copy_job.specs.Standing.{SubtreeCopying}
 use Rattle.copy_job.specs.Unbegun.{IsOutside}
 use Rattle.copy_move.specs.Settling.{NoneOwed}
 use Rattle.copy_move.specs.declared.work.Work.TheVariants.{Copy}
-use Rattle.laws_sessions.specs.Staying.{may_change}
+use Rattle.laws_sessions.proofs.OwnFolders.{may_change}
 use Rattle.tree_trait.specs.Refusals.{is_folder}
 use Rattle.laws_sessions.proofs.Changing.{some_is}
 use Rattle.laws_sessions.proofs.TreeKnown.{LiesOutside}

@@ -252,8 +252,8 @@ tree_still told dirty marks log now course t tree (c, is, how) k = subst (λ (l 
 module _ (told other : HistoryFacts) (tree_same : other.tree ≡ told.tree) (part_same : other.part ≡ told.part) (folders_same : other.folders ≡ told.folders) (calm_same : other.calm ≡ told.calm) (dirty : List Route) (marks : Marks) (log : CallLog) where
   item_said : (course : Course) (item : ItemAtWork) → ItemHas told dirty marks (current log) course item → ItemHas other dirty marks (current log) course item
   item_said course Next none = part_same ∙ none
-  item_said course (File f) k = file_said told other part_same folders_same calm_same marks (current log) dirty course f k
-  item_said course (Link l) (stands, k) = (stands, link_said told other part_same folders_same calm_same marks (current log) dirty l.source l.target l.part k)
+  item_said course (File f) k = file_said told other part_same folders_same marks (current log) dirty course f k
+  item_said course (Link l) (stands, k) = (stands, link_said told other part_same folders_same marks (current log) dirty l.source l.target l.part k)
   item_said course (Stays part) k = record { part_is = part_same ∙ k.part_is; i = k.i; leads = k.leads; bare = k.bare }
 
   around_said : (c : SubtreeCopying) → AroundKnows told marks (current log) c → AroundKnows other marks (current log) c

@@ -32,7 +32,7 @@ use Rattle.copy_job.specs.Marks.{folder_worked, is_dirty_after, is_left_dirty, w
 use Rattle.copy_job.specs.Standing.{SubtreeCopying}
 use Rattle.copy_move.specs.declared.run.Course.TheVariants.{GoesOn}
 use Rattle.copy_move.specs.declared.work.Work.TheVariants.{Copy}
-use Rattle.laws_sessions.specs.Staying.{may_change}
+use Rattle.laws_sessions.proofs.OwnFolders.{may_change}
 use Rattle.laws_sessions.proofs.DeletionSteps.{joined_holds, joined_more}
 use Rattle.laws_sessions.proofs.FilledFolders.{IsFilling, met_untouched}
 use Rattle.laws_sessions.proofs.Knowing.{IsKept, IsKnown, HistoryFacts, nowhere, settled_marks}

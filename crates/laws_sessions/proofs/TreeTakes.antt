@@ -30,7 +30,7 @@ use Rattle.copy_job.specs.Marks.{folder_worked, is_dirty_after, is_left_dirty, w
 use Rattle.copy_job.specs.Standing.{SubtreeCopying}
 use Rattle.copy_move.specs.declared.run.Course.TheVariants.{GoesOn}
 use Rattle.copy_move.specs.declared.work.Work.TheVariants.{Copy}
-use Rattle.laws_sessions.specs.Staying.{may_change}
+use Rattle.laws_sessions.proofs.OwnFolders.{may_change}
 use Rattle.laws_sessions.proofs.BareTargets.{free_or_bare}
 use Rattle.laws_sessions.proofs.FileMoves.{MoveCalls, taken_moves}
 use Rattle.laws_sessions.proofs.Calming.{stopped_is}
@@ -126,7 +126,7 @@ module _ (told : HistoryFacts) (dirty dirty_after : List Route) (marks : Marks) 
           let ready = calls.0 in
           let bare : IsBare (current log) f.target = ready.bare in
           subst (λ q. IsAsFound marks (current log) q) (sym met.target_is)
-          (met_found told dirty marks log up (ahead mid) (target_name mid met.name) kept filling (among_next mid met.name met.rest met.names_are) (subst (λ q. IsBare (current log) q) met.target_is bare))
+          (met_found told dirty marks log up (ahead mid) (target_name mid met.name) kept filling (among_next mid met.name met.rest met.names_are) (subst (λ q. IsBare (current log) q) met.target_is bare) (let still = may.calm up own in still.modes))
 
       name : HasName f.target
       name = record { name = target_name mid met.name; is = met.target_is ∙ ap (λ q. (let r : Route = target_name mid met.name ∷ q in r)) (sym here) }

@@ -37,7 +37,7 @@ use Rattle.copy_job.specs.Marks.{folder_worked, is_dirty_after, is_left_dirty, w
 use Rattle.copy_job.specs.Standing.{SubtreeCopying}
 use Rattle.copy_move.specs.declared.run.Course.TheVariants.{GoesOn}
 use Rattle.copy_move.specs.declared.work.Work.TheVariants.{Copy}
-use Rattle.laws_sessions.specs.Staying.{may_change}
+use Rattle.laws_sessions.proofs.OwnFolders.{may_change}
 use Rattle.laws_sessions.proofs.OpenTargets.{taken_bare}
 use Rattle.laws_sessions.proofs.BareTargets.{free_or_bare}
 use Rattle.laws_sessions.proofs.Calming.{stopped_is}
@@ -177,7 +177,7 @@ module _ (told : HistoryFacts) (dirty dirty_after : List Route) (marks : Marks) 
 
       as_it_was : IsAsFound marks (current log) target
       as_it_was = subst (λ q. IsAsFound marks (current log) q) (sym met.target_is)
-          (met_found told dirty marks log up (ahead mid) (target_name mid met.name) kept filling (among_next mid met.name met.rest met.names_are) (subst (λ q. IsBare (current log) q) met.target_is bare))
+          (met_found told dirty marks log up (ahead mid) (target_name mid met.name) kept filling (among_next mid met.name met.rest met.names_are) (subst (λ q. IsBare (current log) q) met.target_is bare) (let still = may.calm up (subst (λ q. may_change (Copies c.top.source c.top.target) q ≡ true) here own) in still.modes))
 
       has_name : HasName target
       has_name = record { name = target_name mid met.name; is = met.target_is ∙ ap (λ q. (let r : Route = target_name mid met.name ∷ q in r)) (sym here) }
@@ -248,7 +248,6 @@ module _ (told : HistoryFacts) (dirty dirty_after : List Route) (marks : Marks) 
         name = has_name;
         listed = listed;
         folder = or_left _ _ (or_right _ _ (same_path-self folder_in));
-        calm = or_left _ _ own;
         text = text;
         i = n;
         has = has_link told dirty dirty_after marks log kept (folder_of c.top.target) may_in target name g made m refl apart as_it_was;

@@ -272,7 +272,7 @@ module _ (told : HistoryFacts) (dirty dirty_after : List Route) (marks : Marks) 
             | inr outermost ↦ outermost_owes (placed_by (Some (Copies c.top.source c.top.target)) l.target told.tree) outermost (link_progress moved.stage) (Link moved) (Placed l.target) (link.is_dirty moved.folder) new stands
           ];
         })
-        (whole_placed told dirty c.top.source c.top.target l.target name.name name.is l.part k.i k.listed k.folder k.calm marks log now kept (whole_link told marks log l.target l.part k.text k.i h (clean_part (k.i) h.leads)) (copy_shown item_moved) (row_done log now (Rename l.part l.target) rows)))
+        (whole_placed told dirty c.top.source c.top.target l.target name.name name.is l.part k.i k.listed k.folder marks log now kept (whole_link told marks log l.target l.part k.text k.i h (clean_part (k.i) h.leads)) (copy_shown item_moved) (row_done log now (Rename l.part l.target) rows)))
       where
         link_free : ((told.tree l.target).value ≡ None) ⊎ (mid.levels.around ≡ [])
         link_free =

@@ -33,12 +33,13 @@ pub record IsUntouched (marks : Marks) (s : FileSystem) (target : Route) : Type 
 abbrev pub IsBare : FileSystem → Route → Type 0
 IsBare s target = (i : ℕ) → find s target ≡ Some i → is_folder (node s i) ≡ false
 
--- Nothing was done at the target yet: what stands there, if anything does, is what stood there, and no folder. It may be a part that an ended job left, of which
+-- Nothing was done at the target yet: what stands there, if anything does, is what stood there, and no folder, and no mode of it waits. It may be a part that an ended job left, of which
 -- nothing is said.
 pub record IsAsFound (marks : Marks) (s : FileSystem) (target : Route) : Type 0 where
   pub bare : IsBare s target
   pub was : marks.aside target ≡ false → marks.was target ≡ find s target
   pub stood : marks.aside target ≡ true → is_some (find s target) ≡ true
+  pub calm : (i : ℕ) → find s target ≡ Some i → marks.modes i ≡ None
 
 no_node : {A : Type 0} (o : Option ℕ) (i : ℕ) → o ≡ None → o ≡ Some i → A
 no_node o i none some = absurd (let e : (let x : Option ℕ = None in x) ≡ Some i = sym none ∙ some in let f : ⊥ = cc in f)
@@ -48,11 +49,11 @@ bare_free s target free i at = no_node (find s target) i free at
 
 -- so it is where nothing stands
 pub as_found : (marks : Marks) (s : FileSystem) (target : Route) → IsUntouched marks s target → IsAsFound marks s target
-as_found marks s target u = record { bare = bare_free s target u.free; was = λ out. u.was ∙ sym u.free; stood = λ is. absurd (both_ways _ u.out is) }
+as_found marks s target u = record { bare = bare_free s target u.free; was = λ out. u.was ∙ sym u.free; stood = λ is. absurd (both_ways _ u.out is); calm = λ i at. no_node (find s target) i u.free at }
 
 -- a path at which no folder stands, and of whose name nothing waits
-pub found_bare : (told : HistoryFacts) (dirty : List Route) (marks : Marks) (log : CallLog) (p : Route) → IsKept told dirty marks log → way_waits log p ≡ false → IsBare (current log) p → IsAsFound marks (current log) p
-found_bare told dirty marks log p kept sure bare = record { bare = bare; was = λ out. kept.was p out sure; stood = λ is. elim (kept.aside p is) [ inl waits ↦ absurd (both_ways _ sure waits) | inr stands ↦ stands ] }
+pub found_bare : (told : HistoryFacts) (dirty : List Route) (marks : Marks) (log : CallLog) (p : Route) → IsKept told dirty marks log → way_waits log p ≡ false → IsBare (current log) p → ((i : ℕ) → find (current log) p ≡ Some i → marks.modes i ≡ None) → IsAsFound marks (current log) p
+found_bare told dirty marks log p kept sure bare calm = record { bare = bare; was = λ out. kept.was p out sure; stood = λ is. elim (kept.aside p is) [ inl waits ↦ absurd (both_ways _ sure waits) | inr stands ↦ stands ]; calm = calm }
 
 -- a path at which nothing stands, and of whose name nothing waits
 pub untouched_free : (told : HistoryFacts) (dirty : List Route) (marks : Marks) (log : CallLog) (p : Route) → IsKept told dirty marks log → way_waits log p ≡ false → find (current log) p ≡ None → IsUntouched marks (current log) p

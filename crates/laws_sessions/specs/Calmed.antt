@@ -1,5 +1,6 @@
--- Once a job has made its first change, nothing is in doubt on its mount but what that change names; in the
--- words of the history alone. Histories stand newest first here.
+-- Once a job has made its first change, nothing that an ended job changed is in doubt on its mount, nor
+-- anything else but what that change names; in the words of the history alone. Histories stand newest first
+-- here.
 use Rattle.std.specs.Prelude.{◌≡◌, ◌⊎◌, ℕ, Bool, true, false, ◌||◌, List, ◌∷◌, Some}
 use Rattle.mc_text.specs.Routes.{Route, same_path}
 use Rattle.tree_trait.specs.Change.{CallLog}
@@ -13,6 +14,7 @@ use Rattle.job_reports.specs.Jobs.{ItemOfJob, folder_changed}
 use Rattle.laws_sessions.specs.Doubt.{name_waits, node_waits}
 use Rattle.session_entries.specs.LiveJobs.{live_jobs, live_item}
 use Rattle.laws_sessions.specs.ApartFolders.{IsApart}
+use Rattle.laws_sessions.specs.OwnPaths.{IsOfAnother}
 use Rattle.session_entries.specs.Named.{begins_change, has_changed, named_parts, names}
 use Rattle.laws_sessions.specs.Replayed.{log_prefix}
 use Rattle.session_entries.specs.Entries.{IsMoment, calls_in}
@@ -40,19 +42,20 @@ changes_thing (Moved pair) path = false
 changes_thing did path = names did path
 
 -- When such an entry has come to stand, a path of whose name a change isn't on the disk yet is one whose
--- name this entry changes, or it waited before, and its folder lay on another mount then, or was removed.
--- One of which a mode isn't, parts aside, is one that it changes, or waited before, and lay itself on
--- another mount; or a part that an ended job left lies there now, with what was moved.
+-- name this entry changes, or it waited before, and its folder lay on another mount then, or was removed;
+-- but for what another live job named last, which that one sees to. One of which a mode isn't, parts aside,
+-- is one that it changes, or waited before, and lay itself on another mount; or a part that an ended job
+-- left lies there now, with what was moved.
 pub record CalmsOthers (opening now : CallLog) (newest : List Entry) : Type 0 where
   pub names : (e : Entry) (older : List Entry) (folder path : Route) (begun : HasBegun e older folder)
-      → IsMoment newest (e ∷ older) (e ∷ older) e.calls
+      → IsMoment newest (e ∷ older) (e ∷ older) e.calls → (IsOfAnother begun.id older path → ⊥)
       → name_waits (log_prefix opening e.calls now) path ≡ true
       → (changes_name begun.did path ≡ true)
       ⊎ ((name_waits (log_prefix opening (calls_in older) now) path ≡ true)
       × IsApart (log_prefix opening (calls_in older) now) folder (folder_of path))
   pub modes : (e : Entry) (older : List Entry) (folder path : Route) (begun : HasBegun e older folder)
-      → IsMoment newest (e ∷ older) (e ∷ older) e.calls → (Among (named_parts older) path → ⊥)
-      → node_waits (log_prefix opening e.calls now) path ≡ true
+      → IsMoment newest (e ∷ older) (e ∷ older) e.calls → (IsOfAnother begun.id older path → ⊥)
+      → (Among (named_parts older) path → ⊥) → node_waits (log_prefix opening e.calls now) path ≡ true
       → (changes_thing begun.did path ≡ true) ⊎ (Among (named_parts (e ∷ older)) path
       ⊎ ((node_waits (log_prefix opening (calls_in older) now) path ≡ true)
       × IsApart (log_prefix opening (calls_in older) now) folder path))

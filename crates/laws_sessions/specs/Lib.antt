@@ -2,6 +2,7 @@ pub mod Calmed
 pub mod CalmedLaw
 pub mod Doubt
 pub mod Owed
+pub mod OwnPaths
 pub mod ApartFolders
 pub mod Replayed
 pub mod Safe
@@ -10,5 +11,6 @@ pub mod Staying
 pub mod StayingLaw
 pub mod Traces
 pub mod ToldJob
+pub mod Touched
 pub mod Whole
 pub mod WholeLaw

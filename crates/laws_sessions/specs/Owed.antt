@@ -1,26 +1,29 @@
--- What waits for a sync lies in a dirty folder, and a job's first change comes only where
--- nothing waits on that mount.
-use Rattle.std.specs.Prelude.{◌≡◌, ◌⊎◌, ℕ, Bool, true, false, ◌||◌, List, [], ◌∷◌, Option, Some}
-use Rattle.mc_text.specs.Routes.{Route, same_path}
+-- What waits for a sync lies in a dirty folder, and a job's first change comes only where nothing that an
+-- ended job left waits on that mount.
+use Rattle.std.specs.Prelude.{◌≡◌, ◌⊎◌, ℕ, true, false, List, [], ◌∷◌, Option, Some}
+use Rattle.mc_text.specs.Routes.{Route}
 use Rattle.tree_trait.specs.Change.{CallLog, current}
 use Rattle.tree_trait.specs.CrashImages.{Among, all_settled}
 use Rattle.tree_trait.specs.Shape.{IsTree}
 use Rattle.job_reports.specs.declared.report.Did.{Did}
 use Rattle.job_reports.specs.declared.report.Did.TheVariants.{Ended}
 use Rattle.job_reports.specs.declared.report.Ending.TheVariants.{Finished}
+use Rattle.job_reports.specs.Jobs.{ItemOfJob}
 use Rattle.job_reports.specs.Paths.{folder_of}
 use Rattle.session_entries.specs.declared.history.Entry.{Entry}
-use Rattle.session_entries.specs.Named.{has_changed, named_parts}
+use Rattle.session_entries.specs.LiveJobs.{live_item, live_jobs}
+use Rattle.session_entries.specs.Named.{has_changed, left_parts, named_by, named_parts}
 use Rattle.copy_move.specs.declared.run.Course.TheVariants.{GoesOn}
-use Rattle.copy_move.specs.declared.work.Work.{Work}
-use Rattle.copy_move.specs.declared.work.Work.TheVariants.{Move, SetMode}
 use Rattle.copy_move.specs.Jobs.{Running, is_fresh}
-use Rattle.copy_move.specs.Settling.{changed_folder, is_own}
+use Rattle.copy_move.specs.Settling.{changed_folder}
 use Rattle.copy_move.specs.JobStepReports.{RunStep, step_made}
 use Rattle.laws_sessions.specs.Traces.{IsUnclaimed, IsTraced, Stand, StepLeads, WorkLeads, unless_ended}
-use Rattle.laws_sessions.specs.Doubt.{IsJoined, IsMountInDoubt, is_unsettled}
+use Rattle.laws_sessions.specs.Doubt.{IsJoined, is_unsettled}
 use Rattle.laws_sessions.specs.Doubt.{name_waits, node_waits, way_waits}
 use Rattle.laws_sessions.specs.ApartFolders.{IsApart}
+use Rattle.laws_sessions.specs.Calmed.{changes_name, changes_thing}
+use Rattle.laws_sessions.specs.OwnPaths.{IsOfAnother, IsOwnPath}
+use Rattle.laws_sessions.specs.Staying.{IsNoMatterOf}
 
 -- this folder is dirty, or one is for which and this one a renaming waits
 abbrev pub IsOwed : List Route → CallLog → Route → Type 0
@@ -38,53 +41,39 @@ pub record OwedLaw : Type 0 where
       → IsTree (current opening) → all_settled opening.changes ≡ true → IsTraced opening newest stand now
       → (Among (named_parts newest) path → ⊥) → node_waits now path ≡ true → Among stand.dirty path
 
--- a folder in which a change of a job waits from its first on: one of its own, but of a move only
--- the two that hold its names
-abbrev pub waits_in : Work → Route → Bool
-waits_in (Move m) folder =
-    same_path folder (folder_of m.pair.source) || same_path folder (folder_of m.pair.target)
-waits_in work folder = is_own work folder
-
--- Once the live job has made its first change, each change of a name that isn't on the disk yet is in
--- such a folder, on another mount, or in a folder that was removed; and each mode that isn't, parts
--- aside, is of such a path itself.
-abbrev pub FirstChange : (Running → Route → CallLog → List Entry → CallLog → Type 0) → Type 0
-FirstChange Holds = (opening log now : CallLog) (older newest : List Entry) (was stand : Stand)
+-- What holds of a path after a step of the live job by which it may make its first change, but for what
+-- another live job named last.
+abbrev pub FirstChange : (Running → Did → List Entry → Route → CallLog → CallLog → Type 0) → Type 0
+FirstChange Holds = (opening log now : CallLog) (older : List Entry) (was : Stand) (dirty : List Route)
     (job new : Running) (did : Did) (path : Route)
     → IsTree (current opening) → all_settled opening.changes ≡ true → IsTraced opening older was log
-    → IsTraced opening newest stand now → was.jobs ≡ job ∷ []
-    → WorkLeads job did new was.dirty stand.dirty log now → job.course ≡ GoesOn → is_fresh job.work ≡ true
-    → Holds job path log newest now
+    → was.jobs ≡ job ∷ [] → WorkLeads job did new was.dirty dirty log now → job.course ≡ GoesOn
+    → is_fresh job.work ≡ true → (IsOfAnother job.id older path → ⊥) → Holds job did older path log now
 
+-- Then each change of a name that isn't on the disk yet is of one that the step's report changes, or waited
+-- before, and its folder lay on another mount, or was removed. And each mode that isn't, parts aside, is of
+-- a thing that it changes, or waited before, and lay itself so; or a part that an ended job left lies there
+-- now, with what was moved.
 pub record FirstChangeLaw : Type 0 where
-  pub names : FirstChange (λ job path log newest now. name_waits now path ≡ true
-      → (waits_in job.work (folder_of path) ≡ true) ⊎ IsApart log (changed_folder job.work) (folder_of path))
-  pub modes : FirstChange (λ job path log newest now. (Among (named_parts newest) path → ⊥) → node_waits now
-      path ≡ true → (waits_in job.work path ≡ true) ⊎ IsApart log (changed_folder job.work) path)
-
--- a path of a job's own: one in a folder of its own, of a copy also one below its target, or the thing
--- to which it gives a mode
-abbrev pub is_own_path : Work → Route → Bool
-is_own_path (SetMode s) path = same_path path s.path
-is_own_path work path = is_own work (folder_of path)
-
--- a mount in doubt is no matter of a job that changes names around it
-abbrev pub IsNoMatter : Work → CallLog → Route → Type 0
-IsNoMatter (SetMode s) log path = ⊥
-IsNoMatter work log path = IsMountInDoubt log path
+  pub names : FirstChange (λ job did older path log now. name_waits now path ≡ true
+      → (changes_name did path ≡ true)
+      ⊎ ((name_waits log path ≡ true) × IsApart log (changed_folder job.work) (folder_of path)))
+  pub modes : FirstChange (λ job did older path log now. (Among (named_parts older) path → ⊥)
+      → node_waits now path ≡ true → (changes_thing did path ≡ true)
+      ⊎ (Among (named_by did (left_parts older) (named_parts older)) path
+      ⊎ ((node_waits log path ≡ true) × IsApart log (changed_folder job.work) path)))
 
 -- A job that has changed something, and whose step is that it is finished, has left no path of its own
--- in doubt: in the folder that holds what it placed, made or removed, of a deletion in each that it
--- deleted or kept, or the thing to which it gave a mode. No name waits there, nor what stands there,
--- parts and mounts in doubt aside.
+-- in doubt: no name waits there, nor what stands there, parts and mounts in doubt aside.
 abbrev pub FinishedLaw : Type 0
 FinishedLaw = (opening now after : CallLog) (newest : List Entry) (stand : Stand) (dirty : List Route)
-    (job new : Running) (part : Option Route) (path : Route)
+    (job new : Running) (part : Option Route) (item : ItemOfJob) (path : Route)
     → IsTree (current opening) → all_settled opening.changes ≡ true → IsTraced opening newest stand now
     → stand.jobs ≡ job ∷ [] → WorkLeads job (Ended Finished part) new stand.dirty dirty now after
-    → has_changed job.id newest ≡ true → is_own_path job.work path ≡ true
+    → has_changed job.id newest ≡ true → live_item job.id (live_jobs newest) ≡ Some item
+    → IsOwnPath job.id item newest path
     → (way_waits now path ≡ false) × ((Among (named_parts newest) path → ⊥)
-    → (IsNoMatter job.work now path → ⊥) → is_unsettled now path ≡ false)
+    → (IsNoMatterOf item now path → ⊥) → is_unsettled now path ≡ false)
 
 -- The machine's own step is one of which such a history tells.
 abbrev pub StepLaw : Type 0

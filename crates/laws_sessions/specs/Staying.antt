@@ -1,15 +1,15 @@
 -- What is on the disk stays on the disk until an entry names it again; so what a finished job did stays
 -- done. Histories stand newest first here.
-use Rattle.std.specs.Prelude.{◌≡◌, ℕ, ◌+◌, Bool, true, false, ◌||◌, List, ◌∷◌, length, Some}
-use Rattle.mc_text.specs.Routes.{Route, is_prefix, same_path}
+use Rattle.std.specs.Prelude.{◌≡◌, ℕ, ◌+◌, true, false, List, ◌∷◌, length, Some}
+use Rattle.mc_text.specs.Routes.{Route}
 use Rattle.tree_trait.specs.declared.file_system.FileSystem.{FileSystem}
 use Rattle.tree_trait.specs.FileSystem.{value_at}
 use Rattle.tree_trait.specs.Change.{CallLog}
 use Rattle.tree_trait.specs.CrashImages.{IsCrashImage}
-use Rattle.job_reports.specs.Paths.{folder_of}
 use Rattle.session_entries.specs.declared.history.Entry.{Entry}
-use Rattle.job_reports.specs.Jobs.{ItemOfJob, Copies, Moves, Removes, Makes, MakesLink, Sets, RemovesEmptied}
+use Rattle.job_reports.specs.Jobs.{ItemOfJob, Sets}
 use Rattle.laws_sessions.specs.Doubt.{IsMountInDoubt}
+use Rattle.laws_sessions.specs.OwnPaths.{IsOwnPath}
 use Rattle.session_entries.specs.LiveJobs.{live_jobs, live_item}
 use Rattle.session_entries.specs.Sources.{IsDoneWith}
 use Rattle.session_entries.specs.Named.{has_changed, names_path, IsUnnamedSince}
@@ -17,38 +17,20 @@ use Rattle.laws_sessions.specs.Replayed.{log_prefix, replayed_tree}
 use Rattle.session_entries.specs.Entries.{IsMoment, calls_in}
 use Rattle.laws_sessions.specs.Safe.{IsPart}
 
--- a folder in which a job may change names: the one that holds what it places, makes or removes; where it
--- copies or deletes, also the thing itself and what lies in it; where it moves, so of both its paths
-abbrev pub may_change : ItemOfJob → Route → Bool
-may_change (Copies source target) folder = same_path folder (folder_of target) || is_prefix target folder
-may_change (Moves source target) folder =
-    (same_path folder (folder_of source) || is_prefix source folder)
-    || (same_path folder (folder_of target) || is_prefix target folder)
-may_change (Removes path) folder = same_path folder (folder_of path) || is_prefix path folder
-may_change (Makes path) folder = same_path folder (folder_of path)
-may_change (MakesLink path text) folder = same_path folder (folder_of path)
-may_change (Sets path mode) folder = false
-may_change (RemovesEmptied path) folder = same_path folder (folder_of path)
-
--- a path that a job may change: one in such a folder, or the thing to which it gives a mode
-abbrev pub may_change_path : ItemOfJob → Route → Bool
-may_change_path (Sets thing mode) path = same_path path thing
-may_change_path item path = may_change item (folder_of path)
-
 -- a mount in doubt is no matter of a job that changes names around it
 abbrev pub IsNoMatterOf : ItemOfJob → CallLog → Route → Type 0
 IsNoMatterOf (Sets thing mode) log path = ⊥
 IsNoMatterOf item log path = IsMountInDoubt log path
 
 -- This entry, after the older ones, tells of a job that it is done with a source: it is finished, or goes
--- on with the next one. There it has changed something, and it may have changed this path.
+-- on with the next one. There it has changed something, and this path is its own.
 pub record HasFinished (e : Entry) (older : List Entry) (path : Route) : Type 0 where
   pub id : ℕ
   pub item : ItemOfJob
   pub ended : IsDoneWith id e.what
   pub changed : has_changed id older ≡ true
   pub its : live_item id (live_jobs older) ≡ Some item
-  pub within : may_change_path item path ≡ true
+  pub own : IsOwnPath id item older path
 
 -- The same in the words of the history alone: once a job that has changed something is done with a source,
 -- each path of its own holds after a crash at any later moment, inside a call too, what the history said

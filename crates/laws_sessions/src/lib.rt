@@ -26,20 +26,22 @@ pub fn where_doubt_lies()
     ensures { OwedLaw }
 {}
 
-/// Once a job has made its first change, each change that isn't on the disk yet is in a folder of its own,
-/// on another mount, or in a folder that was removed; and so is a mode, of the path itself.
+/// Once a job has made its first change, each change of a name that isn't on the disk yet is one of its
+/// report, or waited before on another mount, or in a folder that was removed; and so is a mode. But for
+/// what another live job named last.
 pub fn what_a_first_change_leaves_in_doubt()
     ensures { FirstChangeLaw }
 {}
 
 /// The same in the words of the history alone: where a report of a job's first change for one of its
-/// sources stands, nothing on its mount is in doubt but what that report names.
+/// sources stands, nothing that an ended job left on its mount is in doubt, nor anything else but what that
+/// report names.
 pub fn what_a_first_change_calms()
     ensures { CalmLaw }
 {}
 
-/// A job that may report that it is finished, and has changed something, has left nothing in a folder of
-/// its own that isn't on the disk.
+/// A job that may report that it is finished, and has changed something, has left nothing that isn't on the
+/// disk at a path of its own: one that its source touches, or a part that it named.
 pub fn what_a_finished_job_leaves()
     ensures { FinishedLaw }
 {}
@@ -50,8 +52,8 @@ pub fn what_stays_on_the_disk()
     ensures { StaysLaw }
 {}
 
-/// What a job that is finished did in its folders stays done: no crash at a later moment brings back what a
-/// path held before, until an entry names that path.
+/// What a job that is finished did at paths of its own stays done: no crash at a later moment brings back
+/// what a path held before, until an entry names that path.
 pub fn what_a_finished_job_did_stays()
     ensures { FinishedStaysLaw }
 {}

@@ -13,8 +13,7 @@ use Rattle.laws_sessions.proofs.Moments.{replay_law, session_law}
 use Rattle.laws_sessions.proofs.WholeMoments.{whole_law}
 use Rattle.laws_outcomes.proofs.AnswersLaw.{answered_law}
 use Rattle.laws_outcomes.proofs.CutKeeps.{keeps_law}
-use Rattle.laws_outcomes.proofs.Elsewhere.{untouched_law}
-use Rattle.laws_outcomes.proofs.KeptSessions.{kept_law}
+use Rattle.laws_outcomes.proofs.UntouchedSteps.{kept_law, untouched_law}
 use Rattle.laws_outcomes.proofs.Outcome.{outcome_law}
 use Rattle.laws_outcomes.proofs.Together.{all_sources_law}
 use Rattle.mc_desk.specs.declared.starts.Start.{Start}

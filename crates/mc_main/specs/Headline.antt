@@ -43,7 +43,8 @@ abbrev pub IsFinishedRun : CallLog → CallLog → List Entry → Type 0
 IsFinishedRun opening now newest = IsTree (current opening) → all_settled opening.changes ≡ true
     → StaysDone opening now newest
 
--- once a job has made its first change, nothing is in doubt on its mount but what that change names
+-- once a job has made its first change, nothing is in doubt on its mount but what that change names, and
+-- what another live job named last
 abbrev pub IsCalmedRun : CallLog → CallLog → List Entry → Type 0
 IsCalmedRun opening now newest = IsTree (current opening) → all_settled opening.changes ≡ true
     → CalmsOthers opening now newest

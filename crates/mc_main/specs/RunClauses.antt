@@ -1,5 +1,5 @@
--- The promises of a run that hold together: of the tree, of the end, of what is printed in place of a session,
--- of a start that is refused, and of the status.
+-- The promises of a run that hold together: of the tree, of the end, of what is printed in place of a
+-- session, of a start that is refused, and of the status.
 use Rattle.std.specs.Prelude.{◌≡◌, ◌⊎◌, ℕ, ◌≤◌, ◌++◌, true, List, reverse, Option, Some, None, IsSome}
 use Rattle.tree_trait.specs.Change.{CallLog}
 use Rattle.tree_trait.specs.Answers.{IfKnown}
@@ -32,20 +32,23 @@ pub record KeepsTree (opening now : CallLog) (newest : List Entry) : Type 0 wher
   -- one that was named as a part.
   pub whole : IsWholeRun opening now newest
   -- What a job did for a source with which it is done stays done, at each later moment, until an entry names
-  -- the path again, or the folder that holds it; but for parts that were named, and, unless it was the job's
-  -- own, the mode of a folder at which another mount begins.
+  -- the path again, or one above it: at each path that the source touches, and at each that the job named as
+  -- a part; but for parts that still stand, and, unless it was the job's own, the mode of a folder at which
+  -- another mount begins.
   pub finished : IsFinishedRun opening now newest
   -- Where a job is done with one of its sources, all that it was to do with it is done, but for what it
   -- passed over: a copy stands of all that stands at the source, what was moved stands at its target, and not
   -- at its source, nothing stands that was to be removed, and what was to be made, or given a mode, is so.
-  -- All else is as it was where the job began with it. So at its end all is done with all its sources, where
-  -- no later one touches what concerns an earlier one.
+  -- All else is as it was where the job began with it, but for what another job named meanwhile: no report
+  -- of the job changes it. So at its end all is done with all its sources, where no later one touches what
+  -- concerns an earlier one.
   pub outcome : IsOutcomeRun opening now newest
   -- A job asks what is to become of a file or a link at the target of its copy or its move where no answer
   -- decides that, keeps it where one says so, and begins a part beside it, or moves something onto it, only
   -- where one says that it is replaced.
   pub answered : IsAnsweredRun opening now newest
-  -- Once a job has made its first change, nothing is in doubt on its mount but what that change names.
+  -- Once a job has made its first change, nothing is in doubt on its mount but what that change names, and
+  -- what another live job named last.
   pub calmed : IsCalmedRun opening now newest
   -- The tree shows at the end what the history makes of the opening.
   pub replayed : IsReplayedRun opening now newest

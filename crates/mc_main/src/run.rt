@@ -36,8 +36,8 @@ pub trait Gate {
 ///
 /// The status is 0 at the quit key or the end of the keys, 1 where the words can't be read or ask for what
 /// isn't built yet, 2 where a folder or a file is refused, 3 where the keyboard failed, 4 where the screen
-/// did, and else 5, where memory ran out. For 1 and 2 one line is printed. The words may also ask for the help or
-/// the version, which is printed with status 0.
+/// did, and else 5, where memory ran out. For 1 and 2 one line is printed. The words may also ask for the
+/// help or the version, which is printed with status 0.
 pub fn mc_run<N: Tag, T: Tree, K: Source, S: Sink, P: Spawner, C: Clock, G: Gate>(
     alloc: Global,
     words: &[Text],
@@ -65,7 +65,8 @@ pub fn mc_run<N: Tag, T: Tree, K: Source, S: Sink, P: Spawner, C: Clock, G: Gate
     // what is moved is whole at its source, or at its target, with all that lay in it; what is deleted is
     // whole, or gone; and all else is as it was. Each is said from where a source is taken up until one is
     // that touches the path, of a move until any is. Excepted are paths that were ever parts, and what wasn't
-    // on the disk when the source was taken up. The tree has the shape of one at the opening, nothing pending.
+    // on the disk when the source was taken up. The tree has the shape of one at the opening, with nothing
+    // pending.
     ensures keeps { IfKnown (T.contents tree) (λ opening. IfKnown (T.contents result.tree) (λ now.
         IsKeepingRun opening now (reverse result.history.entries))) }
 

@@ -1,5 +1,4 @@
-use Rattle.laws_outcomes.proofs.Elsewhere.{untouched_law}
-use Rattle.laws_outcomes.proofs.KeptSessions.{kept_law}
+use Rattle.laws_outcomes.proofs.UntouchedSteps.{kept_law, untouched_law}
 use Rattle.laws_outcomes.proofs.what_a_finished_job_left_alone.Goals as goal
 
 pub returns-clause-untouched : goal.returns-clause-untouched
