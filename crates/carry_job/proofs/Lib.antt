@@ -1,0 +1,5 @@
+mod Counting
+mod Ending
+mod Judged
+mod Ordered
+mod Stepping
