@@ -19,6 +19,13 @@ list_of-push [] item = refl
 list_of-push (first ∷ items) item =
     ap (before first) (list_of-push items item) ∙ sym (followed-before first (list_of items) (before item NoMore))
 
+-- items that are the same stay so with one more that is the same
+pub pushed-same : (copies items : List HotItem) (copy item : HotItem) → list_of copies ≡ list_of items
+    → ((others : HotList) → before copy others ≡ before item others) → list_of (copies ++ copy ∷ []) ≡ list_of (items ++ item ∷ [])
+pushed-same copies items copy item same last =
+    list_of-push copies copy ∙ ap (λ list. followed_by list (before copy NoMore)) same ∙ ap (followed_by (list_of items)) (last NoMore)
+    ∙ sym (list_of-push items item)
+
 map_same : (f g : HotList → HotList) (o : Option HotList) → ((list : HotList) → f list ≡ g list) → option_map f o ≡ option_map g o
 map_same f g None same = refl
 map_same f g (Some list) same = ap Some (same list)

@@ -3,7 +3,7 @@ use Rattle.std.proofs.Common.{◌≡◌, ℕ, zero, suc, ◌<◌, ◌+◌, List,
 use denote.Ref.{Bor}
 use Rattle.hotlist.specs.declared.items.HotItem.{HotItem}
 use Rattle.hotlist.specs.HotLists.{HotList, NoMore, AnEntry, AGroup, before, list_of}
-use Rattle.hotlist.specs.Places.{from_position, first_of, inside, item_at}
+use Rattle.hotlist.specs.Places.{from_position, first_of, inside, items_of_group, item_at}
 use Rattle.hotlist.proofs.ListLemmas.{item_is}
 
 -- behind its first item a list goes on with the others
@@ -52,3 +52,12 @@ pub item_at-below : (position : ℕ) (below : List ℕ) (list inner : HotList) �
     → item_at (position ∷ below) list ≡ item_at below inner
 item_at-below position [] list inner some is = absurd (omega arith)
 item_at-below position (next ∷ below) list inner some is = ap (item_at (next ∷ below)) is
+
+-- no group stands in an empty list, nor behind the last item of one
+nothing_in : (place : List ℕ) → items_of_group place NoMore ≡ NoMore
+nothing_in [] = refl
+nothing_in (position ∷ place) = ap (λ list. items_of_group place (inside list)) (nothing_from position) ∙ nothing_in place
+
+pub items_of_group-none : (position : ℕ) (below : List ℕ) (list : HotList) → from_position position list ≡ NoMore
+    → items_of_group (position ∷ below) list ≡ NoMore
+items_of_group-none position below list is = ap (λ l. items_of_group below (inside l)) is ∙ nothing_in below

@@ -24,6 +24,12 @@ inside NoMore = NoMore
 inside (AnEntry label path others) = NoMore
 inside (AGroup label items others) = items
 
+-- the items of the group at a place; the empty place names the list itself, and where no group stands
+-- there are none
+abbrev pub items_of_group : List ℕ → HotList → HotList
+items_of_group [] list = list
+items_of_group (position ∷ place) list = items_of_group place (inside (from_position position list))
+
 -- the item at a place; the empty place names the list itself, which is no item
 abbrev pub item_at : List ℕ → HotList → Option HotList
 item_at [] list = None

@@ -1,6 +1,7 @@
 //! The hotlist: a list of folders in groups, its file, and the places in it.
 #![tactic(auto)]
 
+mod copying;
 mod draft;
 mod edit;
 mod error;

@@ -2,7 +2,7 @@
 ghost use Rattle.std.specs.Prelude.{◌≡◌, option_map, MatchOption};
 ghost use Rattle.hotlist.specs.HotLists.{HotList, NoMore, before, list_of};
 ghost use Rattle.hotlist.specs.ListViews.{list_in};
-ghost use Rattle.hotlist.specs.Places.{item_at, from_position, inside};
+ghost use Rattle.hotlist.specs.Places.{item_at, items_of_group, from_position, inside};
 
 use crate::items::HotItem;
 use crate::list::Hotlist;
@@ -14,6 +14,27 @@ impl Hotlist {
         ensures { option_map (λ item. before item.now NoMore) result ≡ item_at place.now (list_in self.now) }
     {
         item_in(self.items.as_slice(), place)
+    }
+
+    /// The items of the group at a place, in their order; the empty place is that of the list itself. Where
+    /// no group stands there are none.
+    pub fn items_of_group(&self, place: &[usize]) -> &[HotItem]
+        ensures { list_of result.now ≡ items_of_group place.now (list_in self.now) }
+    {
+        items_below(self.items.as_slice(), place)
+    }
+}
+
+/// The items of the group at a place in a list.
+fn items_below<'a>(items: &'a [HotItem], place: &[usize]) -> &'a [HotItem]
+    ensures { list_of result.now ≡ items_of_group place.now (list_of items.now) }
+{
+    let Some((position, below)) = place.split_first() else {
+        return items;
+    };
+    match item_of(items, *position) {
+        Some(item) => items_below(items_in(item), below),
+        None => &[],
     }
 }
 

@@ -1,0 +1,5 @@
+pub mod HotlistKeys
+pub mod HotlistFiles
+pub mod HotlistRows
+pub mod HotlistBoxes
+pub mod HotlistFrames
