@@ -1,7 +1,7 @@
--- What a step of a copy reports: what is placed is a file or a link, what is made a folder, where the source is one; a mode is given only to a folder that was made; and what is
+-- What a step of a copy reports: what is placed is a file or a link, whose part stands, what is made a folder, where the source is one and nothing stood; a mode is given only to a folder that was made; and what is
 -- cleaned is the part that stands.
 use Rattle.std.proofs.Common.{◌≡◌, ◌⊎◌, ℕ, Bool, true, false, List, [], ◌∷◌, refl, sym, ◌∙◌, ap, subst, inl, inr, Option, Some, None}
-use Rattle.std.specs.Prelude.{⊤}
+use Rattle.std.specs.Prelude.{⊤, is_some}
 use Rattle.std.specs.Option.{option_map}
 use Rattle.mc_text.specs.Routes.{Route, is_prefix}
 use Rattle.mc_text.specs.declared.kind.Kind.TheVariants as kind
@@ -10,6 +10,7 @@ use Rattle.tree_trait.specs.FileSystem.{Spot, Value, View, find, node, value}
 use Rattle.tree_trait.specs.Shape.{IsTree}
 use Rattle.laws_crash.specs.Guarded.{Marks}
 use Rattle.job_answers.specs.declared.replies.Replies.{Replies}
+use Rattle.job_reports.proofs.PermittedCalls.{stat_missing}
 use Rattle.job_reports.specs.declared.job.Pair.{Pair}
 use Rattle.job_reports.specs.declared.report.Did.{Did}
 use Rattle.job_reports.specs.declared.report.Did.TheVariants as common
@@ -51,7 +52,7 @@ use Rattle.laws_sessions.proofs.TreeKnown.{ItemHas}
 use Rattle.laws_sessions.proofs.TreeMachine.{SaysPassed, skip_says}
 use Rattle.laws_outcomes.proofs.Accounts.{AreOpened, IsOpened, IsShown, TreeDone}
 use Rattle.laws_outcomes.proofs.CopyOutcome.{TreeAccounts, shows_all}
-use Rattle.laws_outcomes.proofs.FileWork.{some_shown}
+use Rattle.laws_outcomes.proofs.FileWork.{none_shown, some_shown}
 use Rattle.laws_outcomes.proofs.TreeClosings.{not_made}
 use Rattle.laws_outcomes.proofs.TreeLevels.{closed_done, leaves_done}
 
@@ -68,8 +69,8 @@ abbrev pub WasMade : Pair → View → Route → Type 0
 WasMade top v target = (source : Route) × IsMoved top source target × (is_prefix top.target source ≡ false → IsShown v source target)
 
 abbrev pub CopyFact : Pair → View → Option Route → Did → Type 0
-CopyFact top v stands (common.Placed path) = ComesFrom top v IsSingle path
-CopyFact top v stands (common.Made path) = ComesFrom top v (λ x. x.kind ≡ kind.Folder) path
+CopyFact top v stands (common.Placed path) = (is_some stands ≡ true) × ComesFrom top v IsSingle path
+CopyFact top v stands (common.Made path) = ((v path).value ≡ None) × ComesFrom top v (λ x. x.kind ≡ kind.Folder) path
 CopyFact top v stands (common.Set path) = WasMade top v path
 CopyFact top v stands (common.Cleaned part) = stands ≡ Some part
 CopyFact top v stands (common.Removed path) = ⊥
@@ -102,7 +103,7 @@ module _ (told : HistoryFacts) (dirty dirty_after : List Route) (marks : Marks) 
       let has = h.1 in
       let fill = h.2 refl in
       subst (λ p. Fact (common.Placed p)) (sym path_is)
-      (f.source, m, (value (node (current log) fill.n), stands_at f.source part fill.n has.part_is fill.apart fill.source_leads, inl fill.file))
+      (ap is_some has.part_is, (f.source, m, (value (node (current log) fill.n), stands_at f.source part fill.n has.part_is fill.apart fill.source_leads, inl fill.file)))
   file_stage_fact f moved (common.Cleaned part) k m (follows, stage, new_is) = (let h = (subst (StageKnows told marks (current log) GoesOn f) stage k).1 in let has = h.1 in has.part_is)
   file_stage_fact f moved (common.Began part) k m t = tt
   file_stage_fact f moved (common.Chunk count) k m t = tt
@@ -123,7 +124,7 @@ module _ (told : HistoryFacts) (dirty dirty_after : List Route) (marks : Marks) 
       let has = k.has in
       let copies = k.copies in
       subst (λ p. Fact (common.Placed p)) (sym path_is)
-      (l.source, m, (value (node (current log) copies.n), stands_at l.source l.part copies.n has.part_is copies.apart copies.source_leads, inr copies.link))
+      (ap is_some has.part_is, (l.source, m, (value (node (current log) copies.n), stands_at l.source l.part copies.n has.part_is copies.apart copies.source_leads, inr copies.link)))
   link_fact l moved (common.Cleaned part) (stands, k) m (follows, stage, part_is, new_is) = (let has = k.has in has.part_is ∙ ap (λ p. (let o : Option Route = Some p in o)) (sym part_is))
   link_fact l moved (common.Began part) h m t = tt
   link_fact l moved (common.Chunk count) h m t = tt
@@ -155,13 +156,13 @@ module _ (told : HistoryFacts) (dirty dirty_after : List Route) (marks : Marks) 
 
   -- a folder is made
   folder_fact : (pair : Pair) (mode : ℕ) (moved : FolderCopying) (report : FolderDid) (did : Did) → IsToldAs report did → Tells (copying pair.source pair.target (at.Make mode) Synced) report moved
-      → IsMoved top pair.source pair.target → (x : Value) → (told.tree pair.source).value ≡ Some x → x.kind ≡ kind.Folder → Fact did
-  folder_fact pair mode moved (folder_did.Made path) did says (other, stage, path_is, new_is) m x stands folder =
-      subst Fact (sym (says ∙ ap common.Made path_is)) (pair.source, m, (x, stands, folder))
-  folder_fact pair mode moved (folder_did.Set path) did says (other, stage, path_is, new_is) m x stands folder = absurd (let f : ⊥ = cc in f)
-  folder_fact pair mode moved folder_did.Barrier did says t m x stands folder = subst Fact (sym says) tt
-  folder_fact pair mode moved folder_did.Closed did says t m x stands folder = absurd says
-  folder_fact pair mode moved (folder_did.Troubled trouble) did says t m x stands folder = subst Fact (sym says) tt
+      → IsMoved top pair.source pair.target → (told.tree pair.target).value ≡ None → (x : Value) → (told.tree pair.source).value ≡ Some x → x.kind ≡ kind.Folder → Fact did
+  folder_fact pair mode moved (folder_did.Made path) did says (other, stage, path_is, new_is) m free x stands folder =
+      subst Fact (sym (says ∙ ap common.Made path_is)) (free, (pair.source, m, (x, stands, folder)))
+  folder_fact pair mode moved (folder_did.Set path) did says (other, stage, path_is, new_is) m free x stands folder = absurd (let f : ⊥ = cc in f)
+  folder_fact pair mode moved folder_did.Barrier did says t m free x stands folder = subst Fact (sym says) tt
+  folder_fact pair mode moved folder_did.Closed did says t m free x stands folder = absurd says
+  folder_fact pair mode moved (folder_did.Troubled trouble) did says t m free x stands folder = subst Fact (sym says) tt
 
   -- a folder is synced
   sync_fact : (c moved : FolderCopying) (report : FolderDid) (did : Did) → IsToldAs report did → Tells (at_sync c) report moved → Fact did
@@ -193,7 +194,8 @@ module _ (told : HistoryFacts) (dirty dirty_after : List Route) (marks : Marks) 
     takes_fact none shows (inr (inr (inr (inl t)))) =
         let is = t.is log refl in
         let w = t.works in
-        folder_fact t.pair t.mode w.moved w.report did w.says w.tells (pair_moved top old.levels.inner.names.names old t.pair refl t.next place) _
+        folder_fact t.pair t.mode w.moved w.report did w.says w.tells (pair_moved top old.levels.inner.names.names old t.pair refl t.next place)
+        (none_shown told.tree log kept.known.guarded.tree shows (let p : Pair = t.pair in p.target) (stat_missing (current log) (let p : Pair = t.pair in p.target) is.1)) _
         (some_shown told.tree log kept.known.guarded.tree shows (let p : Pair = t.pair in p.source) is.0.0) is.0.1
     takes_fact none shows (inr (inr (inr (inr (inl t))))) = subst Fact (sym t.says) tt
     takes_fact none shows (inr (inr (inr (inr (inr (inl t)))))) = subst Fact (sym t.says) tt

@@ -1,6 +1,6 @@
--- What the entries of a session say of a path, from where a source was taken up on, until one is that touches it: none names it, or the job that is at that source changed it.
+-- What the entries of a session say of a path, from where a source was taken up on, until a step at another one names it: none names it, or the job that is at that source changed it.
 use Rattle.std.proofs.Common.{◌≡◌, ◌⊎◌, ℕ, Bool, true, false, List, [], ◌∷◌, ◌++◌, length, refl, sym, ◌∙◌, ap, subst, inl, inr, Option, Some, None, append_assoc}
-use Rattle.std.specs.Prelude.{⊤, ◌||◌, if◌then◌else◌}
+use Rattle.std.specs.Prelude.{⊤, ◌||◌, ◌==◌, if◌then◌else◌}
 use Rattle.std.specs.Option.{option_map, option_map_or}
 use Rattle.std.proofs.lemmas.Bool.{both_ways, eq-eqb, false≢true}
 use Rattle.mc_text.specs.Routes.{Route, is_prefix, same_path}
@@ -18,10 +18,10 @@ use Rattle.session_entries.specs.declared.history.Event.{Event}
 use Rattle.session_entries.specs.declared.history.Event.TheVariants.{Key, Look, Sought, Order, Step, Next, Closed}
 use Rattle.session_entries.specs.declared.history.Event.TheVariants as event
 use Rattle.session_entries.specs.declared.history.Entry.{Entry}
-use Rattle.session_entries.specs.LiveJobs.{LiveJob, live_item, live_jobs}
-use Rattle.session_entries.specs.Moves.{is_of_move}
-use Rattle.session_entries.specs.Named.{IsUnnamedSince, left_parts, named_after, named_parts, names, names_path}
-use Rattle.laws_outcomes.specs.Touched.{IsUntakenSince, WasPart, taken_up, touches}
+use Rattle.session_entries.specs.LiveJobs.{LiveJob, after_event, after_report, live_item, live_jobs}
+use Rattle.session_entries.specs.Moves.{is_of_move, paths_moved}
+use Rattle.session_entries.specs.Named.{IsUnnamedSince, left_after, left_parts, named_after, named_parts, names, names_path}
+use Rattle.laws_outcomes.specs.Touched.{IsAtSince, IsPartAt, LastsSince, WasPart, touches}
 use Rattle.copy_tree.specs.InPlace.{IsMoved}
 use Rattle.copy_move.specs.Jobs.{Running}
 use Rattle.laws_sessions.specs.Replayed.{earlier_event, earlier_step, earlier_tree, log_prefix, replayed_event, replayed_step, replayed_tree}
@@ -40,7 +40,8 @@ use Rattle.laws_outcomes.specs.Begun.{tree_begun}
 use Rattle.laws_outcomes.specs.Outcomes.{passed_over}
 use Rattle.laws_outcomes.proofs.Accounts.{put_value}
 use Rattle.laws_outcomes.proofs.ChangedPaths.{IsChanged}
-use Rattle.laws_outcomes.proofs.CutLive.{AllLive, Begins, IsAtFirst, IsOff, any_item, live_since}
+use Rattle.laws_outcomes.proofs.CutLive.{AllLive, live_since}
+use Rattle.laws_outcomes.proofs.CutParts.{apart_then, left_event, named_event}
 use Rattle.laws_outcomes.proofs.CutSteps.{StepFact, leads_fact, pair_at}
 use Rattle.laws_outcomes.proofs.Doing.{JobDone, JobsDone}
 use Rattle.laws_outcomes.proofs.Outcome.{traced_done}
@@ -72,11 +73,11 @@ named_how (Troubled trouble) path h = absurd (false≢true h)
 
 -- then it begins that part, or it is the one that stands
 module _ (v : View) (stood : Option Route) where
-  cleaned_part : (item : ItemOfJob) (part : Route) → StepFact item v stood (Cleaned part) → stood ≡ Some part
+  pub cleaned_part : (item : ItemOfJob) (part : Route) → StepFact item v stood (Cleaned part) → stood ≡ Some part
   cleaned_part (Copies source target) part fact = fact.0
   cleaned_part item part fact = absurd fact
 
-  ended_part : (item : ItemOfJob) (ending : Ending) (part : Option Route) → StepFact item v stood (Ended ending part) → (part ≡ None) ⊎ (stood ≡ part)
+  pub ended_part : (item : ItemOfJob) (ending : Ending) (part : Option Route) → StepFact item v stood (Ended ending part) → (part ≡ None) ⊎ (stood ≡ part)
   ended_part (Copies source target) ending part fact = fact.1
   ended_part (Moves source target) ending part fact = inl fact
   ended_part (Removes top) ending part fact = inl fact
@@ -96,7 +97,7 @@ module _ (v : View) (stood : Option Route) where
 
   -- what is changed is touched
   placed_touches : (item : ItemOfJob) (p path : Route) → StepFact item v stood (Placed p) → path ≡ p → touches item path ≡ true
-  placed_touches (Copies source target) p path fact is = (let t = fact.0 in let m : IsMoved (pair_at source target) t.0 p = t.1 in subst (λ q. is_prefix target q ≡ true) (sym (is ∙ m.to)) (prefix_append target m.rest))
+  placed_touches (Copies source target) p path fact is = (let t = fact.0.1 in let m : IsMoved (pair_at source target) t.0 p = t.1 in subst (λ q. is_prefix target q ≡ true) (sym (is ∙ m.to)) (prefix_append target m.rest))
   placed_touches item p path fact is = absurd fact
 
   removed_touches : (item : ItemOfJob) (p path : Route) → StepFact item v stood (Removed p) → path ≡ p → touches item path ≡ true
@@ -106,9 +107,9 @@ module _ (v : View) (stood : Option Route) where
   removed_touches item p path fact is = absurd fact
 
   made_touches : (item : ItemOfJob) (p path : Route) → StepFact item v stood (Made p) → path ≡ p → touches item path ≡ true
-  made_touches (Copies source target) p path fact is = (let t = fact.0 in let m : IsMoved (pair_at source target) t.0 p = t.1 in subst (λ q. is_prefix target q ≡ true) (sym (is ∙ m.to)) (prefix_append target m.rest))
-  made_touches (Makes made) p path fact is = subst (λ q. same_path q made ≡ true) (sym (is ∙ fact)) (same_path-self made)
-  made_touches (MakesLink made text) p path fact is = subst (λ q. same_path q made ≡ true) (sym (is ∙ fact)) (same_path-self made)
+  made_touches (Copies source target) p path fact is = (let t = fact.0.1 in let m : IsMoved (pair_at source target) t.0 p = t.1 in subst (λ q. is_prefix target q ≡ true) (sym (is ∙ m.to)) (prefix_append target m.rest))
+  made_touches (Makes made) p path fact is = subst (λ q. same_path q made ≡ true) (sym (is ∙ fact.0)) (same_path-self made)
+  made_touches (MakesLink made text) p path fact is = subst (λ q. same_path q made ≡ true) (sym (is ∙ fact.0)) (same_path-self made)
   made_touches item p path fact is = absurd fact
 
   set_touches : (item : ItemOfJob) (p path : Route) → StepFact item v stood (Set p) → path ≡ p → touches item path ≡ true
@@ -132,6 +133,11 @@ module _ (v : View) (stood : Option Route) where
   changed_touches item (Set p) path fact changed = set_touches item p path fact (one_path p path changed)
   changed_touches item (Moved pair) path fact changed = moved_touches item pair path fact changed
   changed_touches item did path fact changed = absurd changed
+
+  -- only a copy begins a part
+  pub begins_copy : (item : ItemOfJob) (part : Route) → StepFact item v stood (Began part) → (source : Route) × (target : Route) × (item ≡ Copies source target)
+  begins_copy (Copies source target) part fact = (source, target, refl)
+  begins_copy item part fact = absurd fact
 
 -- what a path showed before a report that changed it, it showed before that
 earlier_changed : (did : Did) (v before : View) (path : Route) → IsChanged did path → (earlier_step did v before path).value ≡ (v path).value
@@ -164,6 +170,11 @@ event_unchanged log what jobs v path unnamed = refl
 event_earlier : (what : Event) (v before : View) (path : Route) → names_path what path ≡ false → earlier_event what v before path ≡ before path
 event_earlier (Step id did) v before path unnamed = earlier_unnamed did v before path unnamed
 event_earlier what v before path unnamed = refl
+
+-- the part of the first live job
+abbrev first_part : List LiveJob → Option Route
+first_part [] = None
+first_part (job ∷ jobs) = job.part
 
 module _ (opening : CallLog) (tree : IsTree (current opening)) (settled : all_settled opening.changes ≡ true) (end : CallLog) where
   -- the tree that the history makes
@@ -248,45 +259,96 @@ module _ (opening : CallLog) (tree : IsTree (current opening)) (settled : all_se
               ap (λ (l : CallLog). replayed_tree opening l g) (first.end_is ∙ (ap (λ (l : CallLog). more l first.rest) n.now_is ∙ ap (log_of before) (append_assoc before.changes n.made first.rest)))
               ∙ replayed_more opening before (n.made ++ first.rest) g r.within
 
-  -- a path that a step names, and that was never a part, was changed
-  pub changed_named : (e : Entry) (g : List Entry) (id : ℕ) (did : Did) (path : Route) → e.what ≡ Step id did → AtStep e g id did → names did path ≡ true → (WasPart (e ∷ g) path → ⊥) → IsChanged did path
-  changed_named e g id did path is at named no_part = elim (named_how did path named) [
-    | inl changed ↦ changed
-    | inr part ↦ absurd (by (part_how (shown g) at.part at.item did path at.fact part))
-  ]
+  -- a part is begun where nothing can be seen
+  pub began_bare : (e : Entry) (g : List Entry) (id : ℕ) (path : Route) → IsFirst (e ∷ g) → e.what ≡ Step id (Began path) → AtStep e g id (Began path) → (shown g path).value ≡ None
+  began_bare e g id path first is at =
+      sym (ap (λ (w : View). (w path).value) at.shows)
+      ∙ (ap (λ (l : CallLog). (replayed_tree opening l (e ∷ g) path).value) first.end_is
+      ∙ (ap (λ (w : View). (w path).value) (replayed_more opening first.now first.rest (e ∷ g) r.within)
+      ∙ ap (λ (spot : Spot). spot.value) (r.kept.known.part path part_is).1))
     where
-      by : (at.part ≡ Some path) ⊎ (did ≡ Began path) → ⊥
-      by (inl stands) = no_part (inr (was_named g (at.named path stands)))
-        where
-          was_named : (xs : List Entry) → Among (named_parts xs) path → WasPart xs path
-          was_named [] among = absurd among
-          was_named (x ∷ xs) among = inl among
-      by (inr begins) = no_part (inl (subst (λ w. Among (named_after w (left_parts g) (named_parts g)) path) (sym (is ∙ ap (Step id) begins)) (inl refl)))
+      r : IsReached opening (e ∷ g) first.stand first.now
+      r = traced_reached opening tree settled (e ∷ g) first.stand first.now first.traced
 
-  -- of a path that the first source touches, and none since
-  module _ (begun : List Entry) (path : Route) (begins : Begins opening tree settled begun (λ i. touches i path)) where
-    abbrev pub touching : ItemOfJob → Bool
-    touching i = touches i path
+      if_same : (b : Bool) (x y : List LiveJob) → b ≡ true → if◌then◌else◌ b x y ≡ x
+      if_same true x y same = refl
+      if_same false x y same = absurd (false≢true same)
 
-    -- the step that changes it is one of that source, since which none was taken up
-    pub at_source : (e : Entry) (g : List Entry) (id : ℕ) (did : Did) → IsFirst g → IsUntakenSince begun touching g → (at : AtStep e g id did) → IsChanged did path → IsUntakenSince begun any_item g × (taken_up begun ≡ Some at.item)
-    at_source e g id did first since at changed = elim (live_since opening tree settled begun touching g first.stand first.now first.traced since begins) [
-      | inl here ↦ (here.0, (subst (AllLive (λ i. taken_up begun ≡ Some i)) at.live here.1).0)
-      | inr off ↦ absurd (both_ways _ (subst (AllLive (λ i. touches i path ≡ false)) at.live off).0 (changed_touches (shown g) at.part at.item did path at.fact changed))
-    ]
+      live_is : live_jobs (e ∷ g) ≡ (let l : LiveJob = record { id = id; item = at.item; part = Some path } in l) ∷ []
+      live_is = ap (λ w. after_event w (live_jobs g)) is ∙ (ap (after_report id (Began path)) at.live ∙ if_same (id == id) _ _ (eq-eqb id id refl))
+
+      by : (jobs : List Running) → HasLive (live_jobs (e ∷ g)) jobs r.part → r.part ≡ Some path
+      by [] none = absurd (let e : (let l : LiveJob = record { id = id; item = at.item; part = Some path } in l) ∷ [] ≡ [] = sym live_is ∙ none in let f : ⊥ = cc in f)
+      by (job ∷ []) one = sym (ap first_part (sym live_is ∙ one))
+      by (job ∷ other ∷ jobs) two = absurd two
+
+      part_is : r.part ≡ Some path
+      part_is = by first.stand.jobs r.live
+
+  -- Of a path, since entries after which each live job was at such a source.
+  module _ (begun : List Entry) (path : Route) (Its : ItemOfJob → Type 0) (its : AllLive Its (live_jobs begun)) where
+    abbrev pub first_value : Option Value
+    first_value = (shown begun path).value
+
+    -- a step is one at such a source, until another is taken up
+    pub at_source : (e : Entry) (g : List Entry) (id : ℕ) (did : Did) → IsAtSince begun g → (at : AtStep e g id did) → Its at.item
+    at_source e g id did since at = (subst (AllLive Its) at.live (live_since begun Its its g since)).0
+
+    -- It is no part, where something stood at first; where nothing did, it is said elsewhere that it never was one.
+    abbrev pub IsOff : List Entry → Type 0
+    IsOff g = (first_value ≡ None) ⊎ ((first_value ≡ None → ⊥) × (IsPartAt g path → ⊥))
+
+    abbrev pub IsNever : List Entry → Type 0
+    IsNever g = first_value ≡ None → WasPart g path → ⊥
+
+    was_named : (g : List Entry) → Among (named_parts g) path → WasPart g path
+    was_named [] among = absurd among
+    was_named (e ∷ g) among = inl among
+
+    pub off_named : (g : List Entry) → IsOff g → IsNever g → Among (named_parts g) path → ⊥
+    off_named g (inl none) never among = never none (was_named g among)
+    off_named g (inr (some, off)) never among = off (inl among)
+
+    -- an entry that doesn't name it
+    off_unnamed : (e : Entry) (g : List Entry) → names_path e.what path ≡ false → IsOff g → IsOff (e ∷ g)
+    off_unnamed e g unnamed (inl none) = inl none
+    off_unnamed e g unnamed (inr (some, off)) = inr (
+      some,
+      λ part. elim part [
+        | inl named ↦ off (inl (named_event e.what (left_parts g) (named_parts g) path unnamed named))
+        | inr left ↦ off (inr (left_event e.what (left_parts g) path unnamed left))
+      ],
+    )
 
     module _ (Is : Option Value → Type 0) where
+      -- it shows what it showed at first, or is so
+      abbrev pub HoldsThen : List Entry → Type 0
+      HoldsThen g = ((shown g path).value ≡ first_value) ⊎ Is (shown g path).value
+
       -- no entry named it since, or it was changed so, and showed before its last change what it showed first, or was so then, too
       abbrev pub Known : List Entry → Type 0
-      Known g = IsUnnamedSince begun path g ⊎ (Is (shown g path).value × (((earlier_tree opening end g path).value ≡ (shown begun path).value) ⊎ Is (earlier_tree opening end g path).value))
+      Known g = IsUnnamedSince begun path g ⊎ (Is (shown g path).value × (((earlier_tree opening end g path).value ≡ first_value) ⊎ Is (earlier_tree opening end g path).value))
 
       -- each step of the source that changes it leaves it so
       abbrev pub Gives : Type 0
-      Gives = (e : Entry) (g : List Entry) (id : ℕ) (did : Did) → IsFirst (e ∷ g) → e.what ≡ Step id did → IsUntakenSince begun any_item g → (at : AtStep e g id did) → taken_up begun ≡ Some at.item → IsChanged did path
-          → ((shown g path).value ≡ (shown begun path).value) ⊎ Is (shown g path).value → Is (shown (e ∷ g) path).value
+      Gives = (e : Entry) (g : List Entry) (id : ℕ) (did : Did) → IsFirst (e ∷ g) → e.what ≡ Step id did → IsAtSince begun g → (at : AtStep e g id did) → Its at.item → IsChanged did path → HoldsThen g → Is (shown (e ∷ g) path).value
 
-      module _ (gives : Gives) (same : (g : List Entry) → IsUnnamedSince begun path g → (shown g path).value ≡ (shown begun path).value) where
-        shown_of : (g : List Entry) → Known g → ((shown g path).value ≡ (shown begun path).value) ⊎ Is (shown g path).value
+      -- a copy leaves something there
+      abbrev pub Fills : Type 0
+      Fills = (source target : Route) → Its (Copies source target) → Is None → ⊥
+
+      -- and a move takes no part there, where something stood
+      abbrev pub Carries : Type 0
+      Carries = (e : Entry) (g : List Entry) (id : ℕ) (pair : Pair) → IsFirst (e ∷ g) → e.what ≡ Step id (Moved pair) → IsAtSince begun g → (at : AtStep e g id (Moved pair)) → Its at.item → is_of_move pair path ≡ true
+          → (first_value ≡ None → ⊥) → HoldsThen g → Among (paths_moved pair (left_parts g)) path → ⊥
+
+      pub record IsMade : Type 0 where
+        pub gives : Gives
+        pub fills : Fills
+        pub carries : Carries
+
+      module _ (made : IsMade) (same : (g : List Entry) → IsUnnamedSince begun path g → (shown g path).value ≡ first_value) where
+        shown_of : (g : List Entry) → Known g → HoldsThen g
         shown_of g (inl unnamed) = inl (same g unnamed)
         shown_of g (inr known) = inr known.0
 
@@ -297,27 +359,68 @@ module _ (opening : CallLog) (tree : IsTree (current opening)) (settled : all_se
             let was_is = ap (λ (s : Spot). s.value) (event_earlier e.what (shown g) (earlier_tree opening end g) path unnamed) in
             inr (subst Is (sym now_is) known.0, elim known.1 [ inl first ↦ inl (was_is ∙ first) | inr so ↦ inr (subst Is (sym was_is) so) ])
 
-        changed : (e : Entry) (g : List Entry) (id : ℕ) (did : Did) → e.what ≡ Step id did → IsFirst (e ∷ g) → IsUntakenSince begun touching g → (WasPart (e ∷ g) path → ⊥) → names did path ≡ true → Known g → Known (e ∷ g)
-        changed e g id did is first since no_part named known =
-            let first_before = before_newest e g first in
-            let at = at_step e g id did first is in
-            let change = changed_named e g id did path is at named no_part in
-            let source = at_source e g id did first_before since at change in
-            let was_is = ap (λ w. (let s : Spot = earlier_event w (shown g) (earlier_tree opening end g) path in s.value)) is ∙ earlier_changed did (shown g) (earlier_tree opening end g) path change in
-            inr (
-              gives e g id did first is source.0 at source.1 change (shown_of g known),
-              elim (shown_of g known) [ inl first_is ↦ inl (was_is ∙ first_is) | inr so ↦ inr (subst Is (sym was_is) so) ],
-            )
+        module _ (e : Entry) (g : List Entry) (id : ℕ) (did : Did) (is : e.what ≡ Step id did) (first : IsFirst (e ∷ g)) (since : IsAtSince begun g) (never : IsNever (e ∷ g)) (named : names did path ≡ true) (known : Known g) (off : IsOff g) where
+          at : AtStep e g id did
+          at = at_step e g id did first is
+
+          its_item : Its at.item
+          its_item = at_source e g id did since at
+
+          -- nothing begins a part where something stands
+          not_begun : (first_value ≡ None → ⊥) → did ≡ Began path → ⊥
+          not_begun some begins = elim (shown_of g known) [
+            | inl same_value ↦ some (sym same_value ∙ bare)
+            | inr so ↦
+                let c = begins_copy (shown g) at.part at.item path (subst (StepFact at.item (shown g) at.part) begins at.fact) in
+                made.fills c.0 c.1 (subst Its c.2 its_item) (subst Is bare so)
+          ]
+            where
+              bare : (shown g path).value ≡ None
+              bare = began_bare e g id path first (is ∙ ap (Step id) begins) (subst (λ d. AtStep e g id d) begins at)
+
+          no_part : IsOff g → (at.part ≡ Some path) ⊎ (did ≡ Began path) → ⊥
+          no_part (inl none) (inl stands) = never none (inr (was_named g (at.named path stands)))
+          no_part (inl none) (inr begins) = never none (inl (subst (λ w. Among (named_after w (left_parts g) (named_parts g)) path) (sym (is ∙ ap (Step id) begins)) (inl refl)))
+          no_part (inr (some, none)) (inl stands) = none (inl (at.named path stands))
+          no_part (inr (some, none)) (inr begins) = not_begun some begins
+
+          change : IsChanged did path
+          change = elim (named_how did path named) [
+            | inl changed ↦ changed
+            | inr part ↦ absurd (no_part off (part_how (shown g) at.part at.item did path at.fact part))
+          ]
+
+          known_then : Known (e ∷ g)
+          known_then =
+              let was_is = ap (λ w. (let s : Spot = earlier_event w (shown g) (earlier_tree opening end g) path in s.value)) is ∙ earlier_changed did (shown g) (earlier_tree opening end g) path change in
+              inr (
+                made.gives e g id did first is since at its_item change (shown_of g known),
+                elim (shown_of g known) [ inl first_is ↦ inl (was_is ∙ first_is) | inr so ↦ inr (subst Is (sym was_is) so) ],
+              )
+
+          off_then : IsOff g → IsOff (e ∷ g)
+          off_then (inl none) = inl none
+          off_then (inr (some, none)) = inr (
+            some,
+            λ part. apart_then did path (left_parts g) (named_parts g) change
+                (λ pair moves. made.carries e g id pair first (is ∙ ap (Step id) moves) since (subst (λ d. AtStep e g id d) moves at) (subst (λ (d : Did). (a : AtStep e g id d) → Its a.item) moves (λ a. at_source e g id did since a) (subst (λ d. AtStep e g id d) moves at))
+                (subst (λ d. IsChanged d path) moves change) some (shown_of g known))
+                none (subst (λ w. Among (named_after w (left_parts g) (named_parts g)) path ⊎ Among (left_after w (left_parts g)) path) is part),
+          )
+
+          pub both_then : Known (e ∷ g) × IsOff (e ∷ g)
+          both_then = (known_then, off_then off)
 
         -- so one entry more
-        extended : (e : Entry) (g : List Entry) → IsFirst (e ∷ g) → IsUntakenSince begun touching g → (WasPart (e ∷ g) path → ⊥) → Known g → Known (e ∷ g)
-        extended e g first since no_part known = by (names_path e.what path) refl
+        extended : (e : Entry) (g : List Entry) → IsFirst (e ∷ g) → (names_path e.what path ≡ false) ⊎ IsAtSince begun g → IsNever (e ∷ g) → Known g × IsOff g → Known (e ∷ g) × IsOff (e ∷ g)
+        extended e g first how never (known, off) = by (names_path e.what path) refl how
           where
-            by : (b : Bool) → names_path e.what path ≡ b → Known (e ∷ g)
-            by false unnamed = later e g unnamed known
-            by true named = let n = named_by_step e.what path named in changed e g n.0 n.1 n.2 first since no_part n.3 known
+            by : (b : Bool) → names_path e.what path ≡ b → (names_path e.what path ≡ false) ⊎ IsAtSince begun g → Known (e ∷ g) × IsOff (e ∷ g)
+            by false unnamed other = (later e g unnamed known, off_unnamed e g unnamed off)
+            by true named (inl unnamed) = absurd (both_ways _ unnamed named)
+            by true named (inr since) = let n = named_by_step e.what path named in both_then e g n.0 n.1 n.2 first since never n.3 known off
 
-        pub known_since : (g : List Entry) → IsFirst g → IsUntakenSince begun touching g → (WasPart g path → ⊥) → Known g
-        known_since [] first since no_part = inl since
-        known_since (e ∷ g) first (inl since) no_part = inl (inl since)
-        known_since (e ∷ g) first (inr (off, since)) no_part = extended e g first since no_part (known_since g (before_newest e g first) since (λ was. no_part (inr was)))
+        pub known_since : (g : List Entry) → IsFirst g → LastsSince begun (λ what. names_path what path) g → IsNever g → IsOff begun → Known g × IsOff g
+        known_since [] first since never off = (inl since, subst (λ xs. IsOff xs) since off)
+        known_since (e ∷ g) first (inl since) never off = (inl (inl since), subst (λ xs. IsOff xs) since off)
+        known_since (e ∷ g) first (inr (how, since)) never off = extended e g first how never (known_since g (before_newest e g first) since (λ none was. never none (inr was)) off)

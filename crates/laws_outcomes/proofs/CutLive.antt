@@ -1,24 +1,27 @@
--- Which source the live job is at, after entries by which none was taken up that touches a path: the first one, or one that doesn't touch it.
+-- At which source the live job is: where it has begun no change for one that is the one taken up, and it stays at it until another is.
 use Rattle.std.proofs.Common.{◌≡◌, ◌⊎◌, ℕ, Bool, true, false, List, [], ◌∷◌, refl, sym, ◌∙◌, ap, subst, inl, inr, Option, Some, None, true≢false}
-use Rattle.std.specs.Prelude.{⊤, map, ◌==◌, if◌then◌else◌}
+use Rattle.std.specs.Prelude.{⊤, map, ◌==◌, ◌||◌, if◌then◌else◌}
 use Rattle.std.specs.Option.{option_map_or}
 use Rattle.std.proofs.lemmas.Bool.{eq-eqb}
 use Rattle.mc_text.specs.Routes.{Route}
 use Rattle.tree_trait.specs.Shape.{IsTree}
 use Rattle.tree_trait.specs.Change.{Change, CallLog, current}
-use Rattle.tree_trait.specs.CrashImages.{all_settled}
+use Rattle.tree_trait.specs.CrashImages.{Among, all_settled}
 use Rattle.job_reports.specs.declared.job.Job.{Job}
 use Rattle.job_reports.specs.declared.report.Did.{Did}
 use Rattle.job_reports.specs.declared.report.Did.TheVariants.{Began, Chunk, Placed, Removed, Made, Set, Kept, Skipped, Cleaned, Barrier, Asked, Merges, Moved, Troubled, Ended}
 use Rattle.job_reports.specs.Jobs.{ItemOfJob, item_of}
+use Rattle.job_reports.specs.Reports.{ends}
 use Rattle.session_entries.specs.declared.history.Event.{Event}
 use Rattle.session_entries.specs.declared.history.Event.TheVariants.{Key, Look, Sought, Order, Step, Next, Closed}
 use Rattle.session_entries.specs.declared.history.Event.TheVariants as event
 use Rattle.session_entries.specs.declared.history.Entry.{Entry}
+use Rattle.session_entries.specs.Named.{begins_change}
 use Rattle.session_entries.specs.LiveJobs.{LiveJob, after_event, after_report, live, live_jobs, turned_live_job}
 use Rattle.session_entries.specs.Sources.{first_item}
-use Rattle.laws_outcomes.specs.Touched.{IsUntakenSince, taken_by, taken_up, touches}
+use Rattle.laws_outcomes.specs.Touched.{IsAtSince, taken_after, taken_by, taken_up}
 use Rattle.copy_move.specs.Jobs.{Running}
+use Rattle.laws_sessions.specs.Whole.{begins_in}
 use Rattle.laws_sessions.specs.Traces.{EventLeads, Follows, IsTraced, Stand}
 use Rattle.laws_sessions.proofs.Going.{only_job}
 use Rattle.laws_sessions.proofs.Histories.{IsReached, traced_reached}
@@ -124,14 +127,134 @@ module _ (opening : CallLog) (tree : IsTree (current opening)) (settled : all_se
   taken_live Sought after now item s is = absurd (let f : ⊥ = cc in f)
   taken_live Closed after now item s is = absurd (let f : ⊥ = cc in f)
 
--- any source
-abbrev pub any_item : ItemOfJob → Bool
-any_item item = true
-
 -- at such a source is each live job
 pub all_map : (A B : ItemOfJob → Type 0) (jobs : List LiveJob) → ((i : ItemOfJob) → A i → B i) → AllLive A jobs → AllLive B jobs
 all_map A B [] to all = tt
 all_map A B (job ∷ jobs) to all = (to job.item all.0, all_map A B jobs to all.1)
+
+-- as of each of them
+pub all_live : (Is : ItemOfJob → Type 0) (jobs : List LiveJob) → ((job : LiveJob) → Among jobs job → Is job.item) → AllLive Is jobs
+all_live Is [] each = tt
+all_live Is (job ∷ jobs) each = (each job (inl refl), all_live Is jobs (λ other among. each other (inr among)))
+
+-- a report that begins no change and no end leaves each at its source, and without a part
+module _ (item : ItemOfJob) where
+  just_if : (b : Bool) (job new : LiveJob) (jobs after : List LiveJob) → IsJust item new → AllJobs (IsJust item) (job ∷ jobs) → AllJobs (IsJust item) after → AllJobs (IsJust item) (if◌then◌else◌ b (new ∷ jobs) (job ∷ after))
+  just_if true job new jobs after just all rest = (just, all.1)
+  just_if false job new jobs after just all rest = (all.0, rest)
+
+  report_just : (id : ℕ) (did : Did) (jobs : List LiveJob) → (begins_change did || ends did) ≡ false → AllJobs (IsJust item) jobs → AllJobs (IsJust item) (after_report id did jobs)
+  report_just id did [] quiet all = tt
+  report_just id (Ended ending part) (job ∷ jobs) quiet all = absurd (true≢false quiet)
+  report_just id (Began part) (job ∷ jobs) quiet all = absurd (true≢false quiet)
+  report_just id (Removed path) (job ∷ jobs) quiet all = absurd (true≢false quiet)
+  report_just id (Made path) (job ∷ jobs) quiet all = absurd (true≢false quiet)
+  report_just id (Set path) (job ∷ jobs) quiet all = absurd (true≢false quiet)
+  report_just id (Moved pair) (job ∷ jobs) quiet all = absurd (true≢false quiet)
+  report_just id (Chunk count) (job ∷ jobs) quiet all = just_if (job.id == id) job _ jobs (after_report id (Chunk count) jobs) all.0 all (report_just id (Chunk count) jobs quiet all.1)
+  report_just id (Placed path) (job ∷ jobs) quiet all = just_if (job.id == id) job _ jobs (after_report id (Placed path) jobs) (all.0.0, refl) all (report_just id (Placed path) jobs quiet all.1)
+  report_just id (Kept path) (job ∷ jobs) quiet all = just_if (job.id == id) job _ jobs (after_report id (Kept path) jobs) all.0 all (report_just id (Kept path) jobs quiet all.1)
+  report_just id (Skipped path cause) (job ∷ jobs) quiet all = just_if (job.id == id) job _ jobs (after_report id (Skipped path cause) jobs) all.0 all (report_just id (Skipped path cause) jobs quiet all.1)
+  report_just id (Cleaned part) (job ∷ jobs) quiet all = just_if (job.id == id) job _ jobs (after_report id (Cleaned part) jobs) (all.0.0, refl) all (report_just id (Cleaned part) jobs quiet all.1)
+  report_just id Barrier (job ∷ jobs) quiet all = just_if (job.id == id) job _ jobs (after_report id Barrier jobs) all.0 all (report_just id Barrier jobs quiet all.1)
+  report_just id (Asked question) (job ∷ jobs) quiet all = just_if (job.id == id) job _ jobs (after_report id (Asked question) jobs) all.0 all (report_just id (Asked question) jobs quiet all.1)
+  report_just id (Merges transfer pair names) (job ∷ jobs) quiet all = just_if (job.id == id) job _ jobs (after_report id (Merges transfer pair names) jobs) all.0 all (report_just id (Merges transfer pair names) jobs quiet all.1)
+  report_just id (Troubled trouble) (job ∷ jobs) quiet all = just_if (job.id == id) job _ jobs (after_report id (Troubled trouble) jobs) all.0 all (report_just id (Troubled trouble) jobs quiet all.1)
+
+some_of : {A : Type 0} (x : A) → (let o : Option A = None in o) ≡ Some x → ⊥
+some_of x is = cc
+
+-- So where a source is taken up, and the job has begun no change for it, it is at that, and no part stands.
+module _ (opening : CallLog) (tree : IsTree (current opening)) (settled : all_settled opening.changes ≡ true) where
+  pub taken_just : (g : List Entry) (stand : Stand) (now : CallLog) → IsTraced opening g stand now → (item : ItemOfJob) → taken_up g ≡ Some item → AllJobs (IsJust item) (live_jobs g)
+  taken_just [] stand now traced item is = absurd (some_of item is)
+  taken_just (e ∷ older) stand now (was, before, traced, f) item is = by (taken_just older was before traced item) e.what refl
+    where
+      stepped : (taken_up older ≡ Some item → AllJobs (IsJust item) (live_jobs older)) → (b : Bool) (id : ℕ) (did : Did) → (begins_change did || ends did) ≡ b → (if b then None else taken_up older) ≡ Some item → AllJobs (IsJust item) (after_report id did (live_jobs older))
+      stepped earlier true id did quiet taken = absurd (some_of item taken)
+      stepped earlier false id did quiet taken = report_just item id did (live_jobs older) quiet (earlier taken)
+
+      here : (what : Event) → e.what ≡ what → taken_after what (taken_up older) ≡ Some item
+      here what same = sym (ap (λ w. taken_after w (taken_up older)) same) ∙ is
+
+      up : (what : Event) → e.what ≡ what → taken_by what ≡ Some item → AllJobs (IsJust item) (after_event what (live_jobs older))
+      up what same taken = taken_live opening tree settled older was before traced what f.after now item (subst (λ w. EventLeads was w f.after before now) same f.leads) taken
+
+      all : (taken_up older ≡ Some item → AllJobs (IsJust item) (live_jobs older)) → (what : Event) → e.what ≡ what → AllJobs (IsJust item) (after_event what (live_jobs older))
+      all earlier (Step id did) same = stepped earlier (begins_change did || ends did) id did refl (here (Step id did) same)
+      all earlier (event.Began id plan background) same = up (event.Began id plan background) same (here (event.Began id plan background) same)
+      all earlier (Next id plan) same = up (Next id plan) same (here (Next id plan) same)
+      all earlier (Order id order) same = earlier (here (Order id order) same)
+      all earlier (Key key time refusals lost) same = earlier (here (Key key time refusals lost) same)
+      all earlier (Look refusals) same = earlier (here (Look refusals) same)
+      all earlier Sought same = earlier (here Sought same)
+      all earlier Closed same = earlier (here Closed same)
+
+      by : (taken_up older ≡ Some item → AllJobs (IsJust item) (live_jobs older)) → (what : Event) → e.what ≡ what → AllJobs (IsJust item) (live_jobs (e ∷ older))
+      by earlier what same = subst (λ w. AllJobs (IsJust item) (after_event w (live_jobs older))) (sym same) (all earlier what same)
+
+  pub taken_item : (g : List Entry) (stand : Stand) (now : CallLog) → IsTraced opening g stand now → (item : ItemOfJob) → taken_up g ≡ Some item → AllLive (λ i. i ≡ item) (live_jobs g)
+  taken_item g stand now traced item is = at_items item (live_jobs g) (taken_just g stand now traced item is)
+
+-- Each live job stays at its source until one is taken up.
+module _ (begun : List Entry) (Is : ItemOfJob → Type 0) (its : AllLive Is (live_jobs begun)) where
+  pub live_since : (g : List Entry) → IsAtSince begun g → AllLive Is (live_jobs g)
+  live_since [] same = subst (λ xs. AllLive Is (live_jobs xs)) same its
+  live_since (e ∷ older) (inl same) = subst (λ xs. AllLive Is (live_jobs xs)) same its
+  live_since (e ∷ older) (inr (none, since)) = event_live Is e.what (live_jobs older) none (live_since older since)
+
+-- no part stands
+abbrev pub NoPart : List LiveJob → Type 0
+NoPart jobs = AllJobs (λ job. job.part ≡ None) jobs
+
+pub just_bare : (item : ItemOfJob) (jobs : List LiveJob) → AllJobs (IsJust item) jobs → NoPart jobs
+just_bare item [] all = tt
+just_bare item (job ∷ jobs) all = ((let h = all.0 in h.1), just_bare item jobs all.1)
+
+bare_if : (b : Bool) (job new : LiveJob) (jobs after : List LiveJob) → new.part ≡ None → NoPart (job ∷ jobs) → NoPart after → NoPart (if◌then◌else◌ b (new ∷ jobs) (job ∷ after))
+bare_if true job new jobs after none all rest = (none, all.1)
+bare_if false job new jobs after none all rest = (all.0, rest)
+
+gone_if : (b : Bool) (job : LiveJob) (jobs after : List LiveJob) → NoPart (job ∷ jobs) → NoPart after → NoPart (if◌then◌else◌ b jobs (job ∷ after))
+gone_if true job jobs after all rest = all.1
+gone_if false job jobs after all rest = (all.0, rest)
+
+-- nor does one after a report that begins no change
+report_bare : (id : ℕ) (did : Did) (jobs : List LiveJob) → begins_change did ≡ false → NoPart jobs → NoPart (after_report id did jobs)
+report_bare id did [] quiet all = tt
+report_bare id (Began part) (job ∷ jobs) quiet all = absurd (true≢false quiet)
+report_bare id (Removed path) (job ∷ jobs) quiet all = absurd (true≢false quiet)
+report_bare id (Made path) (job ∷ jobs) quiet all = absurd (true≢false quiet)
+report_bare id (Set path) (job ∷ jobs) quiet all = absurd (true≢false quiet)
+report_bare id (Moved pair) (job ∷ jobs) quiet all = absurd (true≢false quiet)
+report_bare id (Ended ending part) (job ∷ jobs) quiet all = gone_if (job.id == id) job jobs (after_report id (Ended ending part) jobs) all (report_bare id (Ended ending part) jobs quiet all.1)
+report_bare id (Chunk count) (job ∷ jobs) quiet all = bare_if (job.id == id) job _ jobs (after_report id (Chunk count) jobs) all.0 all (report_bare id (Chunk count) jobs quiet all.1)
+report_bare id (Placed path) (job ∷ jobs) quiet all = bare_if (job.id == id) job _ jobs (after_report id (Placed path) jobs) refl all (report_bare id (Placed path) jobs quiet all.1)
+report_bare id (Kept path) (job ∷ jobs) quiet all = bare_if (job.id == id) job _ jobs (after_report id (Kept path) jobs) all.0 all (report_bare id (Kept path) jobs quiet all.1)
+report_bare id (Skipped path cause) (job ∷ jobs) quiet all = bare_if (job.id == id) job _ jobs (after_report id (Skipped path cause) jobs) all.0 all (report_bare id (Skipped path cause) jobs quiet all.1)
+report_bare id (Cleaned part) (job ∷ jobs) quiet all = bare_if (job.id == id) job _ jobs (after_report id (Cleaned part) jobs) refl all (report_bare id (Cleaned part) jobs quiet all.1)
+report_bare id Barrier (job ∷ jobs) quiet all = bare_if (job.id == id) job _ jobs (after_report id Barrier jobs) all.0 all (report_bare id Barrier jobs quiet all.1)
+report_bare id (Asked question) (job ∷ jobs) quiet all = bare_if (job.id == id) job _ jobs (after_report id (Asked question) jobs) all.0 all (report_bare id (Asked question) jobs quiet all.1)
+report_bare id (Merges transfer pair names) (job ∷ jobs) quiet all = bare_if (job.id == id) job _ jobs (after_report id (Merges transfer pair names) jobs) all.0 all (report_bare id (Merges transfer pair names) jobs quiet all.1)
+report_bare id (Troubled trouble) (job ∷ jobs) quiet all = bare_if (job.id == id) job _ jobs (after_report id (Troubled trouble) jobs) all.0 all (report_bare id (Troubled trouble) jobs quiet all.1)
+
+begun_bare : (id : ℕ) (o : Option ItemOfJob) (jobs : List LiveJob) → o ≡ None → NoPart jobs → NoPart (option_map_or (λ item. live id item ∷ jobs) o jobs)
+begun_bare id None jobs none all = all
+begun_bare id (Some item) jobs none all = absurd (let f : ⊥ = cc in f)
+
+turned_bare : (id : ℕ) (o : Option ItemOfJob) (jobs : List LiveJob) → o ≡ None → NoPart jobs → NoPart (option_map_or (λ item. map (turned_live_job id item) jobs) o jobs)
+turned_bare id None jobs none all = all
+turned_bare id (Some item) jobs none all = absurd (let f : ⊥ = cc in f)
+
+pub event_bare : (what : Event) (jobs : List LiveJob) → taken_by what ≡ None → begins_in what ≡ false → NoPart jobs → NoPart (after_event what jobs)
+event_bare (Step id did) jobs none quiet all = report_bare id did jobs quiet all
+event_bare (event.Began id plan background) jobs none quiet all = begun_bare id (first_item plan) jobs none all
+event_bare (Next id plan) jobs none quiet all = turned_bare id (item_of plan) jobs none all
+event_bare (Order id order) jobs none quiet all = all
+event_bare (Key key time refusals lost) jobs none quiet all = all
+event_bare (Look refusals) jobs none quiet all = all
+event_bare Sought jobs none quiet all = all
+event_bare Closed jobs none quiet all = all
 
 -- the source that is taken up, if one is
 pub taken_either : (what : Event) → (taken_by what ≡ None) ⊎ ((item : ItemOfJob) × (taken_by what ≡ Some item))
@@ -140,40 +263,3 @@ taken_either what = by (taken_by what) refl
     by : (o : Option ItemOfJob) → taken_by what ≡ o → (taken_by what ≡ None) ⊎ ((item : ItemOfJob) × (taken_by what ≡ Some item))
     by None is = inl is
     by (Some item) is = inr (item, is)
-
--- Since a source was taken up, or nothing yet, no source was that is such: none was at all, or the live job is at one that isn't.
-module _ (opening : CallLog) (tree : IsTree (current opening)) (settled : all_settled opening.changes ≡ true) (begun : List Entry) (is_such : ItemOfJob → Bool) where
-  abbrev pub IsAtFirst : List Entry → Type 0
-  IsAtFirst g = IsUntakenSince begun any_item g × AllLive (λ i. taken_up begun ≡ Some i) (live_jobs g)
-
-  abbrev pub IsOff : List Entry → Type 0
-  IsOff g = AllLive (λ i. is_such i ≡ false) (live_jobs g)
-
-  -- the entries with which it begins
-  abbrev pub Begins : Type 0
-  Begins = (begun ≡ []) ⊎ ((item : ItemOfJob) × (taken_up begun ≡ Some item))
-
-  at_first : (g : List Entry) (stand : Stand) (now : CallLog) → IsTraced opening g stand now → begun ≡ g → Begins → IsAtFirst g
-  at_first [] stand now traced same begins = (same, tt)
-  at_first (e ∷ older) stand now (was, before, traced, f) same (inl none) = absurd (let h : [] ≡ e ∷ older = sym none ∙ same in let x : ⊥ = cc in x)
-  at_first (e ∷ older) stand now (was, before, traced, f) same (inr (item, is)) = (
-    inl same,
-    all_map (λ i. i ≡ item) (λ i. taken_up begun ≡ Some i) (live_jobs (e ∷ older)) (λ i at. is ∙ ap (λ x. (let o : Option ItemOfJob = Some x in o)) (sym at))
-        (at_items item (live_jobs (e ∷ older)) (taken_live opening tree settled older was before traced e.what f.after now item f.leads (sym (ap taken_up same) ∙ is))),
-  )
-
-  off_of : (item : ItemOfJob) (o : Option ItemOfJob) → o ≡ Some item → option_map_or is_such o false ≡ false → is_such item ≡ false
-  off_of item None is off = absurd (let f : ⊥ = cc in f)
-  off_of item (Some x) is off = (let e : x ≡ item = cc in ap is_such (sym e) ∙ off)
-
-  pub live_since : (g : List Entry) (stand : Stand) (now : CallLog) → IsTraced opening g stand now → IsUntakenSince begun is_such g → Begins → IsAtFirst g ⊎ IsOff g
-  live_since [] stand now traced same begins = inl (at_first [] stand now traced same begins)
-  live_since (e ∷ older) stand now traced (inl same) begins = inl (at_first (e ∷ older) stand now traced same begins)
-  live_since (e ∷ older) stand now (was, before, traced, f) (inr (off, since)) begins = by (taken_either e.what) (live_since older was before traced since begins)
-    where
-      by : (taken_by e.what ≡ None) ⊎ ((item : ItemOfJob) × (taken_by e.what ≡ Some item)) → IsAtFirst older ⊎ IsOff older → IsAtFirst (e ∷ older) ⊎ IsOff (e ∷ older)
-      by (inl none) (inl (quiet, at)) = inl (inr (ap (λ o. option_map_or any_item o false) none, quiet), event_live (λ i. taken_up begun ≡ Some i) e.what (live_jobs older) none at)
-      by (inl none) (inr at) = inr (event_live (λ i. is_such i ≡ false) e.what (live_jobs older) none at)
-      by (inr (item, is)) known =
-          inr (all_map (λ i. i ≡ item) (λ i. is_such i ≡ false) (live_jobs (e ∷ older)) (λ i at. ap is_such at ∙ off_of item (taken_by e.what) is off)
-          (at_items item (live_jobs (e ∷ older)) (taken_live opening tree settled older was before traced e.what f.after now item f.leads is)))

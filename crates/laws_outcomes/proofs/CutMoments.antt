@@ -8,11 +8,12 @@ use Rattle.tree_trait.specs.Change.{CallLog, current}
 use Rattle.tree_trait.specs.CrashImages.{Among, IsCrashImage, all_settled}
 use Rattle.tree_trait.specs.FileSystem.{Spot, Value, View, find, value_at}
 use Rattle.job_reports.specs.Jobs.{ItemOfJob}
+use Rattle.session_entries.specs.declared.history.Event.{Event}
 use Rattle.session_entries.specs.declared.history.Entry.{Entry}
 use Rattle.session_entries.specs.Entries.{IsMoment, calls_in}
 use Rattle.session_entries.specs.LiveJobs.{LiveJob, live_jobs}
-use Rattle.session_entries.specs.Named.{IsUnnamedSince, named_parts}
-use Rattle.laws_outcomes.specs.Touched.{IsUntakenSince, WasPart, taken_up, touches}
+use Rattle.session_entries.specs.Named.{IsUnnamedSince, named_parts, names_path}
+use Rattle.laws_outcomes.specs.Touched.{IsPartAt, LastsSince, WasPart, taken_up}
 use Rattle.copy_move.specs.Jobs.{Running}
 use Rattle.laws_sessions.specs.Doubt.{is_unsettled}
 use Rattle.laws_sessions.specs.Replayed.{earlier_tree, log_prefix, replayed_tree}
@@ -24,29 +25,19 @@ use Rattle.laws_sessions.proofs.Moments.{log_of, prefix_is, session_law, traced_
 use Rattle.laws_sessions.proofs.Prefixes.{replayed_more, told_of}
 use Rattle.laws_sessions.proofs.Reports.{HasLive, JobsKnow}
 use Rattle.laws_sessions.proofs.Unnamed.{replayed_since}
-use Rattle.laws_outcomes.specs.KeepsFiles.{IsUntaken, stood}
-use Rattle.laws_outcomes.proofs.CutEntries.{Gives, IsFirst, Known, before_newest, known_since}
-use Rattle.laws_outcomes.proofs.CutLive.{AllJobs, Begins, IsJust, taken_live}
+use Rattle.laws_outcomes.specs.KeepsFiles.{IsLeft, IsPromised, stood}
+use Rattle.laws_outcomes.proofs.CutEntries.{IsFirst, IsMade, IsNever, IsOff, Known, before_newest, known_since, off_named}
+use Rattle.laws_outcomes.proofs.CutLive.{AllJobs, AllLive, just_bare, taken_just}
 
--- a path that entries name as a part was one
-pub named_was : (entries : List Entry) (path : Route) → Among (named_parts entries) path → WasPart entries path
-named_was [] path among = absurd among
-named_was (e ∷ older) path among = inl among
-
--- what begins these entries was one, too, and is no longer
-module _ (begun : List Entry) (is_such : ItemOfJob → Bool) where
-  pub left_was : (g : List Entry) (path : Route) → IsUntakenSince begun is_such g → WasPart begun path → WasPart g path
-  left_was [] path same was = subst (λ x. WasPart x path) same was
-  left_was (e ∷ g) path (inl same) was = subst (λ x. WasPart x path) same was
-  left_was (e ∷ g) path (inr (off, since)) was = inr (left_was g path since was)
-
-  left_longer : (g : List Entry) → IsUntakenSince begun is_such g → length begun ≤ length g
+-- what begins these entries
+module _ (begun : List Entry) (is_such : Event → Bool) where
+  left_longer : (g : List Entry) → LastsSince begun is_such g → length begun ≤ length g
   left_longer [] same = let n = ap (λ (xs : List Entry). length xs) same in omega (arith, n)
   left_longer (e ∷ g) (inl same) = let n = ap (λ (xs : List Entry). length xs) same in omega (arith, n)
-  left_longer (e ∷ g) (inr (off, since)) = let n = left_longer g since in omega (arith, n)
+  left_longer (e ∷ g) (inr (how, since)) = let n = left_longer g since in omega (arith, n)
 
   -- an entry more, and no name of the path since
-  pub unnamed_before : (standing coming : List Entry) (path : Route) → IsUntakenSince begun is_such standing → (coming ≡ standing) ⊎ ((e : Entry) × (coming ≡ e ∷ standing)) → IsUnnamedSince begun path coming → IsUnnamedSince begun path standing
+  pub unnamed_before : (standing coming : List Entry) (path : Route) → LastsSince begun is_such standing → (coming ≡ standing) ⊎ ((e : Entry) × (coming ≡ e ∷ standing)) → IsUnnamedSince begun path coming → IsUnnamedSince begun path standing
   unnamed_before standing coming path left (inl same) since = subst (IsUnnamedSince begun path) same since
   unnamed_before standing coming path left (inr (e, is)) since = by (subst (IsUnnamedSince begun path) is since)
     where
@@ -79,102 +70,118 @@ module _ (opening : CallLog) (tree : IsTree (current opening)) (settled : all_se
   }
   moments (e ∷ g) standing coming calls first (inr (inr earlier)) = moments g standing coming calls (before_newest opening tree settled end e g first) earlier
 
-  pub begun_first : (begun : List Entry) (is_such : ItemOfJob → Bool) (g : List Entry) → First g → IsUntakenSince begun is_such g → First begun
+  pub begun_first : (begun : List Entry) (is_such : Event → Bool) (g : List Entry) → First g → LastsSince begun is_such g → First begun
   begun_first begun is_such [] first same = subst (λ g. First g) (sym same) first
   begun_first begun is_such (e ∷ g) first (inl same) = subst (λ g. First g) (sym same) first
-  begun_first begun is_such (e ∷ g) first (inr (off, since)) = begun_first begun is_such g (before_newest opening tree settled end e g first) since
+  begun_first begun is_such (e ∷ g) first (inr (how, since)) = begun_first begun is_such g (before_newest opening tree settled end e g first) since
 
-  -- where a source is taken up no part stands
-  just_none : (item : ItemOfJob) (jobs : List LiveJob) → AllJobs (IsJust item) jobs → AllJobs (λ l. l.part ≡ None) jobs
-  just_none item [] all = tt
-  just_none item (job ∷ jobs) all = ((let h = all.0 in h.1), just_none item jobs all.1)
+  -- what the history tells stood there, but of a part that stands
+  module _ (begun : List Entry) (first : First begun) where
+    r : IsReached opening begun first.stand first.now
+    r = traced_reached opening tree settled begun first.stand first.now first.traced
 
-  none_stands : (begun : List Entry) → First begun → (begun ≡ []) ⊎ ((item : ItemOfJob) × (taken_up begun ≡ Some item)) → AllJobs (λ l. l.part ≡ None) (live_jobs begun)
-  none_stands [] first begins = tt
-  none_stands (e ∷ older) first (inl none) = absurd (let x : ⊥ = cc in x)
-  none_stands (e ∷ older) first (inr (item, is)) = by first.traced
-    where
-      by : IsTraced opening (e ∷ older) first.stand first.now → AllJobs (λ l. l.part ≡ None) (live_jobs (e ∷ older))
-      by (was, before, traced, f) = just_none item (live_jobs (e ∷ older)) (taken_live opening tree settled older was before traced e.what f.after first.now item f.leads is)
+    shown_at : (path : Route) → (r.part ≡ Some path → ⊥) → stood (log_prefix opening (calls_in begun) end) path ≡ (shown begun path).value
+    shown_at path none =
+        ap (λ (l : CallLog). stood l path) at
+        ∙ (ap (λ (s : Spot). s.value) (r.kept.known.shows path none)
+        ∙ ap (λ (v : View). (v path).value) (sym (ap (λ (l : CallLog). replayed_tree opening l begun) first.end_is ∙ replayed_more opening first.now first.rest begun r.within)))
+      where
+        at : log_prefix opening (calls_in begun) end ≡ first.now
+        at = let n = traced_count opening first.now begun first.stand first.traced in prefix_is opening end (calls_in begun) first.now first.rest first.end_is (omega (arith, n))
 
-  -- so what the history tells stood there
-  pub stood_shown : (begun : List Entry) → First begun → (begun ≡ []) ⊎ ((item : ItemOfJob) × (taken_up begun ≡ Some item)) → (path : Route) → stood (log_prefix opening (calls_in begun) end) path ≡ (shown begun path).value
-  stood_shown begun first begins path =
-      ap (λ (l : CallLog). stood l path) at
-      ∙ (ap (λ (s : Spot). s.value) (r.kept.known.shows path (λ is. no_part (sym none ∙ is)))
-      ∙ ap (λ (v : View). (v path).value) (sym (ap (λ (l : CallLog). replayed_tree opening l begun) first.end_is ∙ replayed_more opening first.now first.rest begun r.within)))
-    where
-      r : IsReached opening begun first.stand first.now
-      r = traced_reached opening tree settled begun first.stand first.now first.traced
+    -- so it is of a path that is no part's
+    pub stood_apart : (path : Route) → (IsPartAt begun path → ⊥) → stood (log_prefix opening (calls_in begun) end) path ≡ (shown begun path).value
+    stood_apart path off = shown_at path (λ is. off (inl (r.kept.known.aside path (r.kept.known.part path is).0)))
 
-      at : log_prefix opening (calls_in begun) end ≡ first.now
-      at = let n = traced_count opening first.now begun first.stand first.traced in prefix_is opening end (calls_in begun) first.now first.rest first.end_is (omega (arith, n))
+    -- and of each, where a source is taken up
+    pub stood_shown : (item : ItemOfJob) → taken_up begun ≡ Some item → (path : Route) → stood (log_prefix opening (calls_in begun) end) path ≡ (shown begun path).value
+    stood_shown item taken path = shown_at path (λ is. no_part (sym none ∙ is))
+      where
+        none_stand : AllJobs (λ l. l.part ≡ None) (live_jobs begun)
+        none_stand = just_bare item (live_jobs begun) (taken_just opening tree settled begun first.stand first.now first.traced item taken)
 
-      no_part : (let o : Option Route = None in o) ≡ Some path → ⊥
-      no_part is = cc
+        no_part : (let o : Option Route = None in o) ≡ Some path → ⊥
+        no_part is = cc
 
-      by_jobs : (jobs : List Running) → first.stand.jobs ≡ jobs → r.part ≡ None
-      by_jobs [] is = subst (λ js. JobsKnow (told_of opening first.now begun r.part) (let s = first.stand in s.dirty) r.marks first.now js) is r.knows
-      by_jobs (job ∷ []) is = (subst (AllJobs (λ l. l.part ≡ None)) (subst (λ js. HasLive (live_jobs begun) js r.part) is r.live) (none_stands begun first begins)).0
-      by_jobs (job ∷ other ∷ jobs) is = absurd (subst (λ js. HasLive (live_jobs begun) js r.part) is r.live)
+        by_jobs : (jobs : List Running) → first.stand.jobs ≡ jobs → r.part ≡ None
+        by_jobs [] is = subst (λ js. JobsKnow (told_of opening first.now begun r.part) (let s = first.stand in s.dirty) r.marks first.now js) is r.knows
+        by_jobs (job ∷ []) is = (subst (AllJobs (λ l. l.part ≡ None)) (subst (λ js. HasLive (live_jobs begun) js r.part) is r.live) none_stand).0
+        by_jobs (job ∷ other ∷ jobs) is = absurd (subst (λ js. HasLive (live_jobs begun) js r.part) is r.live)
 
-      none : r.part ≡ None
-      none = by_jobs first.stand.jobs refl
+        none : r.part ≡ None
+        none = by_jobs first.stand.jobs refl
 
   module _ (newest begun standing coming : List Entry) (stand : Stand) (calls : ℕ) (image : FileSystem) (traced : IsTraced opening newest stand end) (moment : IsMoment newest standing coming calls) (left : IsCrashImage end (length opening.changes + calls) image) where
     pub two : IsFirstTwo standing coming
     two = moments newest standing coming calls (record { stand = stand; now = end; rest = []; traced = traced; end_is = ap (log_of end) (sym (append-nil end.changes)) }) moment
 
-    module _ (path : Route) (begins : Begins opening tree settled begun (λ i. touches i path)) (Is : Option Value → Type 0) (gives : Gives opening tree settled end begun path begins Is) (l : IsUntaken (log_prefix opening (calls_in begun) end) begun standing coming path) where
-      abbrev Holds : Type 0
-      Holds = (value_at image path ≡ (shown begun path).value) ⊎ Is (value_at image path)
+    module _ (path : Route) (l : IsLeft (log_prefix opening (calls_in begun) end) begun standing coming path) where
+      firm : IsPromised (log_prefix opening (calls_in begun) end) begun path
+      firm = l.firm
 
-      abbrev KnownAt : List Entry → Type 0
-      KnownAt g = Known opening tree settled end begun path begins Is g
+      pub stood_first : stood (log_prefix opening (calls_in begun) end) path ≡ (shown begun path).value
+      stood_first = stood_apart begun (begun_first begun (λ what. names_path what path) coming two.comes l.later) path firm.no_part
 
-      stays : (g : List Entry) → IsUnnamedSince begun path g → (shown g path).value ≡ (shown begun path).value
-      stays g since = ap (λ (s : Spot). s.value) (replayed_since opening end begun g path since)
+      module _ (Its : ItemOfJob → Type 0) (its : AllLive Its (live_jobs begun)) (Is : Option Value → Type 0) (made : IsMade opening tree settled end begun path Its its Is) where
+        abbrev Holds : Type 0
+        Holds = (value_at image path ≡ stood (log_prefix opening (calls_in begun) end) path) ⊎ Is (value_at image path)
 
-      no_part : (g : List Entry) → (WasPart g path → WasPart coming path) → Among (named_parts g) path → ⊥
-      no_part g to among = (let firm = l.firm in firm.no_part) (to (named_was g path among))
+        abbrev KnownAt : List Entry → Type 0
+        KnownAt g = Known opening tree settled end begun path Its its Is g × IsOff opening tree settled end begun path Its its g
 
-      was_coming : WasPart standing path → WasPart coming path
-      was_coming was = elim two.next [
-        | inl same ↦ subst (λ g. WasPart g path) (sym same) was
-        | inr more ↦ subst (λ g. WasPart g path) (sym more.1) (inr was)
-      ]
+        abbrev Never : List Entry → Type 0
+        Never g = IsNever opening tree settled end begun path Its its g
 
-      stands : KnownAt standing
-      stands = known_since opening tree settled end begun path begins Is gives stays standing two.stands l.since (λ was. (let firm = l.firm in firm.no_part) (was_coming was))
+        same : (g : List Entry) → IsUnnamedSince begun path g → (shown g path).value ≡ (shown begun path).value
+        same g since = ap (λ (s : Spot). s.value) (replayed_since opening end begun g path since)
 
-      comes : KnownAt coming
-      comes = known_since opening tree settled end begun path begins Is gives stays coming two.comes l.later (let firm = l.firm in firm.no_part)
+        off_begun : IsOff opening tree settled end begun path Its its begun
+        off_begun = by (shown begun path).value refl
+          where
+            by : (o : Option Value) → (shown begun path).value ≡ o → IsOff opening tree settled end begun path Its its begun
+            by None is = inl is
+            by (Some x) is = inr (λ none. (let e : (let o : Option Value = Some x in o) ≡ None = sym is ∙ none in let f : ⊥ = cc in f), firm.no_part)
 
-      bare : (Among (named_parts begun) path → ⊥) ⊎ (is_some (find (current (log_prefix opening (calls_in begun) end)) path) ≡ false)
-      bare = inl (no_part begun (left_was begun (λ i. touches i path) coming path l.later))
+        never_coming : Never coming
+        never_coming none was = l.bare (stood_first ∙ none) was
 
-      -- by what is safe as of entries that changed it
-      safe_of : (g : List Entry) → (Among (named_parts g) path → ⊥) → Is (shown g path).value × (((earlier_tree opening end g path).value ≡ (shown begun path).value) ⊎ Is (earlier_tree opening end g path).value)
-          → IsSafe opening end g (log_prefix opening calls end) image → Holds
-      safe_of g apart known safe = elim (safe path (λ part. apart part.named)) [
-        | inl now ↦ inr (subst Is (sym now) known.0)
-        | inr doubt ↦ elim known.1 [ inl first ↦ inl (doubt.1 ∙ first) | inr so ↦ inr (subst Is (sym doubt.1) so) ]
-      ]
+        never_standing : Never standing
+        never_standing none was = l.bare (stood_first ∙ none) (elim two.next [
+          | inl is ↦ subst (λ g. WasPart g path) (sym is) was
+          | inr more ↦ subst (λ g. WasPart g path) (sym more.1) (inr was)
+        ])
 
-      pub at_path : Holds
-      at_path = by comes stands
-        where
-          on_disk : is_unsettled (log_prefix opening (calls_in begun) end) path ≡ false
-          on_disk = (let firm = l.firm in firm.on_disk)
+        stands : KnownAt standing
+        stands = known_since opening tree settled end begun path Its its Is made same standing two.stands l.since never_standing off_begun
 
-          by : KnownAt coming → KnownAt standing → Holds
-          by (inl unnamed) known =
-              inl (holds_since opening end newest begun standing coming stand calls path image tree settled traced moment (unnamed_before begun (λ i. touches i path) standing coming path l.since two.next unnamed) unnamed on_disk bare left)
-          by (inr changed) (inl unnamed) = elim (holds_or_comes opening end newest begun standing coming stand calls path image tree settled traced moment unnamed on_disk bare left) [
-            | inl holds ↦ inl holds
-            | inr safe ↦ safe_of coming (no_part coming (λ was. was)) changed safe
-          ]
-          by (inr changed) (inr before) = elim (session_law opening end newest standing coming stand calls image tree settled traced moment left) [
-            | inl safe ↦ safe_of standing (no_part standing was_coming) before safe
-            | inr safe ↦ safe_of coming (no_part coming (λ was. was)) changed safe
-          ]
+        comes : KnownAt coming
+        comes = known_since opening tree settled end begun path Its its Is made same coming two.comes l.later never_coming off_begun
+
+        bare : (Among (named_parts begun) path → ⊥) ⊎ (is_some (find (current (log_prefix opening (calls_in begun) end)) path) ≡ false)
+        bare = inl (λ among. firm.no_part (inl among))
+
+        -- by what is safe as of entries that changed it
+        safe_of : (g : List Entry) → (Among (named_parts g) path → ⊥) → Is (shown g path).value × (((earlier_tree opening end g path).value ≡ (shown begun path).value) ⊎ Is (earlier_tree opening end g path).value)
+            → IsSafe opening end g (log_prefix opening calls end) image → Holds
+        safe_of g apart known safe = elim (safe path (λ part. apart part.named)) [
+          | inl now ↦ inr (subst Is (sym now) known.0)
+          | inr doubt ↦ elim known.1 [ inl first ↦ inl (doubt.1 ∙ (first ∙ sym stood_first)) | inr so ↦ inr (subst Is (sym doubt.1) so) ]
+        ]
+
+        pub at_path : Holds
+        at_path = by comes stands
+          where
+            apart : (g : List Entry) → KnownAt g → Never g → Among (named_parts g) path → ⊥
+            apart g known never = off_named opening tree settled end begun path Its its g known.1 never
+
+            by : KnownAt coming → KnownAt standing → Holds
+            by (inl unnamed, off) known =
+                inl (holds_since opening end newest begun standing coming stand calls path image tree settled traced moment (unnamed_before begun (λ what. names_path what path) standing coming path l.since two.next unnamed) unnamed firm.on_disk bare left ∙ sym stood_first)
+            by (inr changed, off) (inl unnamed, before_off) = elim (holds_or_comes opening end newest begun standing coming stand calls path image tree settled traced moment unnamed firm.on_disk bare left) [
+              | inl holds ↦ inl (holds ∙ sym stood_first)
+              | inr safe ↦ safe_of coming (apart coming comes never_coming) changed safe
+            ]
+            by (inr changed, off) (inr before, before_off) = elim (session_law opening end newest standing coming stand calls image tree settled traced moment left) [
+              | inl safe ↦ safe_of standing (apart standing stands never_standing) before safe
+              | inr safe ↦ safe_of coming (apart coming comes never_coming) changed safe
+            ]

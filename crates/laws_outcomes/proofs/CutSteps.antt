@@ -1,12 +1,14 @@
 -- What a step of a job reports that names a path, by what the job is at.
-use Rattle.std.proofs.Common.{◌≡◌, ◌⊎◌, ℕ, Bool, true, false, List, [], ◌∷◌, ◌++◌, refl, sym, ◌∙◌, ap, subst, inl, inr, Option, Some, None}
-use Rattle.std.specs.Prelude.{⊤, ◌||◌, is_some}
+use Rattle.std.proofs.Common.{◌≡◌, ◌⊎◌, ℕ, Bool, true, false, List, [], ◌∷◌, ◌++◌, refl, sym, ◌∙◌, ap, subst, inl, inr, Option, Some, None, Ok}
+use Rattle.std.specs.Prelude.{⊤, ◌||◌, is_some, option_and_then}
 use Rattle.std.specs.Option.{option_map}
 use Rattle.std.proofs.lemmas.Bool.{false≢true}
 use Rattle.mc_text.specs.Routes.{Route, is_prefix, same_path}
 use Rattle.tree_trait.specs.Change.{CallLog, current}
+use Rattle.tree_trait.specs.Answers.{Performs}
+use Rattle.tree_trait.specs.Refusals.{refusal_of}
 use Rattle.tree_trait.specs.CrashImages.{Among}
-use Rattle.tree_trait.specs.FileSystem.{Value, View, find, node, value}
+use Rattle.tree_trait.specs.FileSystem.{Value, View, find, lookup, node, value}
 use Rattle.tree_trait.specs.declared.file_system.FileSystem.{FileSystem}
 use Rattle.tree_trait.proofs.Visible.{same_path-self, same_path-true}
 use Rattle.laws_crash.specs.Guarded.{Marks}
@@ -19,13 +21,17 @@ use Rattle.job_reports.specs.declared.report.Did.{Did}
 use Rattle.job_reports.specs.declared.report.Did.TheVariants.{Began, Chunk, Placed, Removed, Made, Set, Kept, Skipped, Cleaned, Barrier, Asked, Merges, Moved, Troubled, Ended}
 use Rattle.job_reports.specs.declared.report.Ending.{Ending}
 use Rattle.job_reports.specs.declared.report.Ending.TheVariants.{Finished, Aborted, Killed, NoMemory}
-use Rattle.job_reports.specs.Jobs.{ItemOfJob, Copies, Moves, Removes, Makes, MakesLink, Sets, RemovesEmptied}
+use Rattle.job_reports.specs.Jobs.{ItemOfJob, Copies, Moves, Removes, Makes, MakesLink, Sets, RemovesEmptied, new_folder_mode}
+use Rattle.job_reports.specs.Paths.{folder_of}
+use Rattle.job_reports.proofs.CallAnswers.{done_call}
+use Rattle.job_reports.proofs.PermittedCalls.{IsMaking, making_passes}
 use Rattle.session_entries.specs.Named.{names}
 use Rattle.laws_outcomes.specs.Touched.{touches}
 use Rattle.make_job.specs.declared.new_thing.NewThing.{NewThing}
 use Rattle.make_job.specs.declared.new_thing.NewThing.TheVariants as thing
 use Rattle.make_job.specs.Makings as makings
-use Rattle.make_job.specs.Makings.{Making}
+use Rattle.make_job.specs.Makings.{Making, MakingCalls}
+use Rattle.make_job.specs.NewThings.{making_call}
 use Rattle.delete_job.specs.Deletions as deletions
 use Rattle.delete_job.specs.Deletions.{Deleting}
 use Rattle.move_job.specs.Movings as movings
@@ -82,10 +88,10 @@ abbrev pub OnlyRemoves : ItemOfJob → Did → Type 0
 OnlyRemoves item (Removed path) = touches item path ≡ true
 OnlyRemoves item did = IsPlainReport did
 
--- or only what is made
-abbrev pub OnlyMakes : Route → Did → Type 0
-OnlyMakes path (Made made) = made ≡ path
-OnlyMakes path did = IsPlainReport did
+-- or only what is made, where nothing stands
+abbrev pub OnlyMakes : Route → View → Did → Type 0
+OnlyMakes path v (Made made) = (made ≡ path) × ((v path).value ≡ None)
+OnlyMakes path v did = IsPlainReport did
 
 -- or only what is given a mode, where something stands
 abbrev pub OnlySets : Route → View → Did → Type 0
@@ -115,8 +121,8 @@ abbrev pub StepFact : ItemOfJob → View → Option Route → Did → Type 0
 StepFact (Copies source target) v stood did = CopyFact (pair_at source target) v stood did × EndFact stood did
 StepFact (Moves source target) v stood did = OnlyMoves v (pair_at source target) did
 StepFact (Removes top) v stood did = OnlyRemoves (Removes top) did
-StepFact (Makes made) v stood did = OnlyMakes made did
-StepFact (MakesLink made text) v stood did = OnlyMakes made did
+StepFact (Makes made) v stood did = OnlyMakes made v did
+StepFact (MakesLink made text) v stood did = OnlyMakes made v did
 StepFact (Sets path mode) v stood did = OnlySets path v did
 StepFact (RemovesEmptied folder) v stood did = OnlyRemoves (RemovesEmptied folder) did
 
@@ -149,7 +155,7 @@ module _ (v : View) (stood : Option Route) where
   synced_fact (Sets thing mode) = tt
   synced_fact (RemovesEmptied folder) = tt
 
-  made_only : (new : NewThing) (path : Route) (did : Did) → OnlyMakes path did → StepFact (making_item new path) v stood did
+  made_only : (new : NewThing) (path : Route) (did : Did) → OnlyMakes path v did → StepFact (making_item new path) v stood did
   made_only thing.Folder path did k = k
   made_only (thing.Link text) path did k = k
 
@@ -162,12 +168,23 @@ deletion_fact replies d new Barrier t = tt
 deletion_fact replies d new (Ended Finished part) (stage, part_is, at) = part_is
 deletion_fact replies d new did t = absurd t
 
-making_fact : (m new : Making) (did : Did) → makings.Tells m did new → OnlyMakes m.path did
-making_fact m new (Made path) (stage, path_is, new_is) = path_is
-making_fact m new Barrier t = tt
-making_fact m new (Troubled trouble) t = tt
-making_fact m new (Ended Finished part) (is_done, part_is, new_is) = part_is
-making_fact m new did t = absurd t
+making_fact : (m new : Making) (did : Did) (v : View) → ((path : Route) → did ≡ Made path → path ≡ m.path → (v m.path).value ≡ None) → makings.Tells m did new → OnlyMakes m.path v did
+making_fact m new (Made path) v free (stage, path_is, new_is) = (path_is, free path refl path_is)
+making_fact m new Barrier v free t = tt
+making_fact m new (Troubled trouble) v free t = tt
+making_fact m new (Ended Finished part) v free (is_done, part_is, new_is) = part_is
+making_fact m new did v free t = absurd t
+
+-- the call that makes a thing is refused where one stands
+making_free : (s : FileSystem) (new : NewThing) (name : List ℕ) (up : Route) → refusal_of s (making_call new (name ∷ up)) ≡ None → find s (name ∷ up) ≡ None
+making_free s new name up permits = ap (option_and_then (λ f. lookup s.names f name)) passes.folder ∙ passes.none
+  where
+    as_file : (new : NewThing) → refusal_of s (making_call new (name ∷ up)) ≡ None → IsMaking s name up
+    as_file thing.Folder h = making_passes s name up new_folder_mode h
+    as_file (thing.Link text) h = making_passes s name up 0 h
+
+    passes : IsMaking s name up
+    passes = as_file new permits
 
 setting_fact : (replies : Replies) (s new : Setting) (did : Did) (v : View) → ((path : Route) → did ≡ Set path → (x : Value) × ((v s.path).value ≡ Some x)) → settings.Tells replies s did new → OnlySets s.path v did
 setting_fact replies s new (Set path) v stands_there (stage, path_is, new_is) = (path_is, stands_there path refl)
@@ -242,13 +259,22 @@ module _ (told : HistoryFacts) (dirty dirty_after : List Route) (marks : Marks) 
       under name rest None free = none_below log (name ∷ rest) m.pair.target free
       under name rest (Some i) at = none_below_file (current log) kept.known.guarded.tree m.pair.target i at (g.bare i at) name rest
 
+  -- where something is made nothing stood
+  makes_free : (m : Making) (did : Did) → WorkKnows told dirty marks log GoesOn (Make m) → MakingCalls m did log (Some now) → (path : Route) → did ≡ Made path → path ≡ m.path → (told.tree m.path).value ≡ None
+  makes_free m did (name, none) called path did_is path_is =
+      let made = subst (λ q. Performs {A = Unit {0}} log (making_call m.thing q) (Ok tt) (Some now)) path_is (subst (λ (d : Did). MakingCalls m d log (Some now)) did_is called) in
+      let d = done_call log (making_call m.thing (name.name ∷ folder_of m.path)) now (subst (λ q. Performs {A = Unit {0}} log (making_call m.thing q) (Ok tt) (Some now)) name.is made) in
+      none_shown told.tree log kept.known.guarded.tree (shows_all told dirty marks log kept none) m.path
+      (ap (find (current log)) name.is ∙ making_free (current log) m.thing name.name (folder_of m.path) d.permits)
+
   -- the work goes on
   work_fact : (replies : Replies) (old new : Work) (did : Did) (calls faults faults_after : ℕ) (passed : List Route) (begun : View) → WorkKnows told dirty marks log GoesOn old → WorkTells replies old did new
       → WorkCalls IsUnclaimed replies old did new log (Some now) → Walks IsUnclaimed replies old new did calls dirty dirty_after (Some log) (Some now) faults faults_after → WorkDone passed begun told.tree (current log) old → Fact old did
   work_fact replies (Copy c) (Copy new) did calls faults faults_after passed begun knows t called walks k =
       (copy_fact told dirty dirty_after marks log now kept c.top c new did passed walks.free replies calls walks.since faults_after refl knows.part walks.steps k, may_end told.part did t.may)
   work_fact replies (Delete d) (Delete new) did calls faults faults_after passed begun knows t called walks k = deletion_fact replies d new did t
-  work_fact replies (Make m) (Make new) did calls faults faults_after passed begun knows t called walks k = made_only told.tree told.part m.thing m.path did (making_fact m new did t)
+  work_fact replies (Make m) (Make new) did calls faults faults_after passed begun knows t called walks k =
+      made_only told.tree told.part m.thing m.path did (making_fact m new did told.tree (makes_free m did knows called) t)
   work_fact replies (Move m) (Move new) did calls faults faults_after passed begun knows t called walks k =
       moving_fact replies m new did told.tree (λ pair is. going m knows.none (goes_to told dirty dirty_after marks log now kept begun replies m did knows called pair is)) t
   work_fact replies (SetMode s) (SetMode new) did calls faults faults_after passed begun knows t called walks k =
@@ -262,7 +288,7 @@ module _ (told : HistoryFacts) (dirty dirty_after : List Route) (marks : Marks) 
   deletion_wound ending d new (Ended how part) (how_is, part_is, path_is, stage_is) = part_is
   deletion_wound ending d new did t = absurd t
 
-  making_wound : (ending : Ending) (m new : Making) (did : Did) → makings.Winds ending m did new → OnlyMakes m.path did
+  making_wound : (ending : Ending) (m new : Making) (did : Did) → makings.Winds ending m did new → OnlyMakes m.path told.tree did
   making_wound ending m new Barrier t = tt
   making_wound ending m new (Ended how part) (stage, how_is, part_is, new_is) = part_is
   making_wound ending m new did t = absurd t

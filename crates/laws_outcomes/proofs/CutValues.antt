@@ -22,17 +22,17 @@ use Rattle.session_entries.specs.declared.history.Entry.{Entry}
 use Rattle.session_entries.specs.LiveJobs.{LiveJob, after_event, after_report, live, live_jobs, turned_live_job}
 use Rattle.session_entries.specs.Moves.{moved_from}
 use Rattle.session_entries.specs.Sources.{first_item}
-use Rattle.laws_outcomes.specs.Touched.{IsUntakenSince, is_removed, taken_by, taken_up, touches}
+use Rattle.laws_outcomes.specs.Touched.{IsAtSince, is_removed, taken_by, touches}
 use Rattle.copy_tree.specs.InPlace.{IsMoved}
 use Rattle.laws_sessions.specs.Replayed.{copied_folder, log_prefix, new_folder, new_link, placed_copy, replayed_event, replayed_step, replayed_tree, with_mode, with_mode_of}
 use Rattle.laws_sessions.proofs.Moved.{moved_below}
-use Rattle.laws_outcomes.specs.Arrivals.{copies_as, copies_of, new_things, only}
+use Rattle.laws_outcomes.specs.Arrivals.{copies_as, copies_of, copies_over, new_things, only, over_things, overs_of}
 use Rattle.laws_outcomes.proofs.Accounts.{IsShown, put_value}
 use Rattle.laws_outcomes.proofs.ChangedPaths.{IsChanged}
 use Rattle.laws_outcomes.proofs.CutCopies.{CopyFact, IsSingle}
 use Rattle.laws_outcomes.proofs.CutEntries.{AtStep, IsFirst, at_step, before_newest, changed_touches}
-use Rattle.laws_outcomes.proofs.CutLive.{AllLive, any_item, live_since}
-use Rattle.laws_outcomes.proofs.CutSteps.{StepFact, pair_at}
+use Rattle.laws_outcomes.proofs.CutLive.{AllLive, live_since}
+use Rattle.laws_outcomes.proofs.CutSteps.{OnlyMakes, StepFact, pair_at}
 use Rattle.laws_outcomes.proofs.MadeThings.{Unless}
 use Rattle.laws_outcomes.proofs.Touching.{IsAsBegun, step_else}
 
@@ -40,8 +40,25 @@ use Rattle.laws_outcomes.proofs.Touching.{IsAsBegun, step_else}
 abbrev pub IsNew : ItemOfJob → (Route → Option Value) → Route → Option Value → Type 0
 IsNew item stood path o = (x : Value) × (o ≡ Some x) × Among (new_things item stood path) x
 
+-- or it is what may come over something
+abbrev pub IsOver : ItemOfJob → (Route → Option Value) → Route → Option Value → Type 0
+IsOver item stood path o = (x : Value) × (o ≡ Some x) × Among (over_things item stood path) x
+
 some_value : (a b : Value) → (let o : Option Value = Some a in o) ≡ Some b → a ≡ b
 some_value a b is = cc
+
+single_over : (k : Kind) (x : Value) → (k ≡ kind.File) ⊎ (k ≡ kind.Link) → Among (copies_over k x) (placed_copy x)
+single_over kind.File x is = inl refl
+single_over kind.Link x is = inl refl
+single_over kind.Other x is = inl refl
+single_over kind.Folder x (inl is) = absurd (let f : ⊥ = cc in f)
+single_over kind.Folder x (inr is) = absurd (let f : ⊥ = cc in f)
+
+folder_over : (k : Kind) (x : Value) → k ≡ kind.Folder → Among (copies_over k x) (with_mode x.mode new_folder)
+folder_over kind.Folder x is = inl refl
+folder_over kind.File x is = absurd (let f : ⊥ = cc in f)
+folder_over kind.Link x is = absurd (let f : ⊥ = cc in f)
+folder_over kind.Other x is = absurd (let f : ⊥ = cc in f)
 
 -- a file or a link is copied as it is placed
 single_among : (k : Kind) (x : Value) → (k ≡ kind.File) ⊎ (k ≡ kind.Link) → Among (copies_as k x) (placed_copy x)
@@ -80,7 +97,7 @@ module _ (log : CallLog) (source target : Route) (v : View) (stands : Option Rou
   stood_is p q x m there same = sym same ∙ (ap (λ r. (v r).value) (comes p q m) ∙ there)
 
   placed_new : (p : Route) → CopyFact its_pair v stands (Placed p) → (v (from p)).value ≡ stood (from p) → IsNew (Copies source target) stood p (Then (Placed p) p).value
-  placed_new p (q, m, (x, there, single)) same =
+  placed_new p (part, (q, m, (x, there, single))) same =
       let is = stood_is p q x m there same in (
         placed_copy x,
         put_value v p (option_map placed_copy (v (from p)).value) ∙ ap (option_map placed_copy) (same ∙ is),
@@ -88,7 +105,7 @@ module _ (log : CallLog) (source target : Route) (v : View) (stands : Option Rou
       )
 
   made_new : (p : Route) → CopyFact its_pair v stands (Made p) → (v (from p)).value ≡ stood (from p) → IsNew (Copies source target) stood p (Then (Made p) p).value
-  made_new p (q, m, (x, there, folder)) same =
+  made_new p (free, (q, m, (x, there, folder))) same =
       let is = stood_is p q x m there same in (
         with_mode (bit_or x.mode 0o700) new_folder,
         put_value v p (Some (copied_folder (v (from p)).value)) ∙ ap (λ o. (let y : Option Value = Some (copied_folder o) in y)) (same ∙ is),
@@ -120,6 +137,39 @@ module _ (log : CallLog) (source target : Route) (v : View) (stands : Option Rou
   copied_new (Moved pair) path fact changed off same = absurd fact
   copied_new did path fact changed off same = absurd changed
 
+  placed_over : (p : Route) → CopyFact its_pair v stands (Placed p) → (v (from p)).value ≡ stood (from p) → IsOver (Copies source target) stood p (Then (Placed p) p).value
+  placed_over p (part, (q, m, (x, there, single))) same =
+      let is = stood_is p q x m there same in (
+        placed_copy x,
+        put_value v p (option_map placed_copy (v (from p)).value) ∙ ap (option_map placed_copy) (same ∙ is),
+        subst (λ o. Among (overs_of o) (placed_copy x)) (sym is) (single_over x.kind x single),
+      )
+
+  set_over : (p : Route) → CopyFact its_pair v stands (Set p) → is_prefix target (from p) ≡ false → (v (from p)).value ≡ stood (from p) → IsOver (Copies source target) stood p (Then (Set p) p).value
+  set_over p (q, m, shown) off same =
+      let s : IsShown v q p = shown (subst (λ r. is_prefix target r ≡ false) (comes p q m) off) in
+      let is = stood_is p q s.x m s.stands same in (
+        with_mode (let x = s.x in x.mode) new_folder,
+        put_value v p (option_map (with_mode_of (v (from p)).value) (v p).value)
+            ∙ (ap (λ o. option_map (with_mode_of o) (v p).value) (same ∙ is) ∙ ap (option_map (with_mode_of (Some s.x))) s.made),
+        subst (λ o. Among (overs_of o) (with_mode (let x = s.x in x.mode) new_folder)) (sym is) (folder_over (let x = s.x in x.kind) s.x s.folder),
+      )
+
+  -- nothing is made where something stands
+  pub copied_over : (did : Did) (path : Route) → CopyFact its_pair v stands did → IsChanged did path → is_prefix target (from path) ≡ false → (v (from path)).value ≡ stood (from path) → ((v path).value ≡ None → ⊥)
+      → IsOver (Copies source target) stood path (Then did path).value
+  copied_over (Placed p) path fact changed off same some =
+      let is = one_path p path changed in
+      subst (λ r. IsOver (Copies source target) stood r (Then (Placed p) r).value) (sym is) (placed_over p fact (subst (λ r. (v (from r)).value ≡ stood (from r)) is same))
+  copied_over (Made p) path fact changed off same some = absurd (some (ap (λ r. (v r).value) (one_path p path changed) ∙ fact.0))
+  copied_over (Set p) path fact changed off same some =
+      let is = one_path p path changed in
+      subst (λ r. IsOver (Copies source target) stood r (Then (Set p) r).value) (sym is)
+      (set_over p fact (subst (λ r. is_prefix target (from r) ≡ false) is off) (subst (λ r. (v (from r)).value ≡ stood (from r)) is same))
+  copied_over (Removed p) path fact changed off same some = absurd fact
+  copied_over (Moved pair) path fact changed off same some = absurd fact
+  copied_over did path fact changed off same some = absurd changed
+
 -- where something is made, or given a mode
 module _ (log : CallLog) (v : View) (stands : Option Route) (stood : Route → Option Value) where
   pub folder_new : (made : Route) (did : Did) (path : Route) → StepFact (Makes made) v stands did → IsChanged did path → IsNew (Makes made) stood path (replayed_step log did (Some (Makes made)) v path).value
@@ -130,6 +180,15 @@ module _ (log : CallLog) (v : View) (stands : Option Route) (stood : Route → O
   folder_new made (Set p) path fact changed = absurd fact
   folder_new made (Moved pair) path fact changed = absurd fact
   folder_new made did path fact changed = absurd changed
+
+  -- nothing stood there
+  pub made_bare : (made : Route) (did : Did) (path : Route) → OnlyMakes made v did → IsChanged did path → (v path).value ≡ None
+  made_bare made (Made p) path fact changed = ap (λ r. (v r).value) (one_path p path changed ∙ fact.0) ∙ fact.1
+  made_bare made (Placed p) path fact changed = absurd fact
+  made_bare made (Removed p) path fact changed = absurd fact
+  made_bare made (Set p) path fact changed = absurd fact
+  made_bare made (Moved pair) path fact changed = absurd fact
+  made_bare made did path fact changed = absurd changed
 
   pub link_new : (made : Route) (text : List ℕ) (did : Did) (path : Route) → StepFact (MakesLink made text) v stands did → IsChanged did path → IsNew (MakesLink made text) stood path (replayed_step log did (Some (MakesLink made text)) v path).value
   link_new made text (Made p) path fact changed =
@@ -211,10 +270,6 @@ none_live : (b : Bool) (x : List LiveJob) → b ≡ true → (let l : List LiveJ
 none_live true x is = refl
 none_live false x is = absurd (true≢false (sym is))
 
-no_item : (o : Option ItemOfJob) → option_map_or any_item o false ≡ false → o ≡ None
-no_item None is = refl
-no_item (Some item) is = absurd (true≢false is)
-
 begun_same : (id : ℕ) (o : Option ItemOfJob) (jobs : List LiveJob) → o ≡ None → option_map_or (λ x. live id x ∷ jobs) o jobs ≡ jobs
 begun_same id None jobs none = refl
 begun_same id (Some x) jobs none = absurd (let f : ⊥ = cc in f)
@@ -223,22 +278,16 @@ turned_same : (id : ℕ) (o : Option ItemOfJob) (jobs : List LiveJob) → o ≡ 
 turned_same id None jobs none = refl
 turned_same id (Some x) jobs none = absurd (let f : ⊥ = cc in f)
 
-some_item : (a b : ItemOfJob) → (let o : Option ItemOfJob = Some a in o) ≡ Some b → a ≡ b
-some_item a b is = cc
-
 -- As long as the job is at its source what this doesn't touch shows what it showed.
-module _ (opening : CallLog) (tree : IsTree (current opening)) (settled : all_settled opening.changes ≡ true) (end : CallLog) (begun : List Entry) (item : ItemOfJob) (taken : taken_up begun ≡ Some item) (q : Route) (off : touches item q ≡ false) where
+module _ (opening : CallLog) (tree : IsTree (current opening)) (settled : all_settled opening.changes ≡ true) (end : CallLog) (begun : List Entry) (item : ItemOfJob) (its : AllLive (λ i. i ≡ item) (live_jobs begun)) (q : Route) (off : touches item q ≡ false) where
   abbrev shown : List Entry → View
   shown g = replayed_tree opening end g
 
-  pub item_is : (g : List Entry) (e : Entry) (id : ℕ) (did : Did) → IsFirst opening tree settled end g → IsUntakenSince begun any_item g → (at : AtStep opening tree settled end e g id did) → at.item ≡ item
-  item_is g e id did first since at = elim (live_since opening tree settled begun any_item g first.stand first.now first.traced since (inr (item, taken))) [
-    | inl here ↦ some_item at.item item (sym (subst (AllLive (λ i. taken_up begun ≡ Some i)) at.live here.1).0 ∙ taken)
-    | inr none ↦ absurd (true≢false (subst (AllLive (λ i. any_item i ≡ false)) at.live none).0)
-  ]
+  item_is : (g : List Entry) (e : Entry) (id : ℕ) (did : Did) → IsAtSince begun g → (at : AtStep opening tree settled end e g id did) → at.item ≡ item
+  item_is g e id did since at = (subst (AllLive (λ i. i ≡ item)) at.live (live_since begun (λ i. i ≡ item) its g since)).0
 
   -- so one entry more
-  same_more : (e : Entry) (g : List Entry) → IsFirst opening tree settled end (e ∷ g) → IsUntakenSince begun any_item g → option_map_or any_item (taken_by e.what) false ≡ false → ((live_jobs g ≡ [] → ⊥) → shown g q ≡ shown begun q) → (live_jobs (e ∷ g) ≡ [] → ⊥)
+  same_more : (e : Entry) (g : List Entry) → IsFirst opening tree settled end (e ∷ g) → IsAtSince begun g → taken_by e.what ≡ None → ((live_jobs g ≡ [] → ⊥) → shown g q ≡ shown begun q) → (live_jobs (e ∷ g) ≡ [] → ⊥)
       → shown (e ∷ g) q ≡ shown begun q
   same_more e g first since none earlier live_one = by e.what refl
     where
@@ -261,16 +310,16 @@ module _ (opening : CallLog) (tree : IsTree (current opening)) (settled : all_se
           at = at_step opening tree settled end e g id did first is
 
           same : at.item ≡ item
-          same = item_is g e id did before since at
-      by (event.Began id plan background) is = unstepped (event.Began id plan background) is (begun_same id (first_item plan) (live_jobs g) (no_item (first_item plan) (sym (ap (λ w. option_map_or any_item (taken_by w) false) is) ∙ none))) (λ jobs v log. refl)
-      by (Next id plan) is = unstepped (Next id plan) is (turned_same id (item_of plan) (live_jobs g) (no_item (item_of plan) (sym (ap (λ w. option_map_or any_item (taken_by w) false) is) ∙ none))) (λ jobs v log. refl)
+          same = item_is g e id did since at
+      by (event.Began id plan background) is = unstepped (event.Began id plan background) is (begun_same id (first_item plan) (live_jobs g) (sym (ap taken_by is) ∙ none)) (λ jobs v log. refl)
+      by (Next id plan) is = unstepped (Next id plan) is (turned_same id (item_of plan) (live_jobs g) (sym (ap taken_by is) ∙ none)) (λ jobs v log. refl)
       by (Order id order) is = unstepped (Order id order) is refl (λ jobs v log. refl)
       by (Key key time refusals lost) is = unstepped (Key key time refusals lost) is refl (λ jobs v log. refl)
       by (Look refusals) is = unstepped (Look refusals) is refl (λ jobs v log. refl)
       by Sought is = unstepped Sought is refl (λ jobs v log. refl)
       by Closed is = unstepped Closed is refl (λ jobs v log. refl)
 
-  pub source_same : (g : List Entry) → IsFirst opening tree settled end g → IsUntakenSince begun any_item g → (live_jobs g ≡ [] → ⊥) → shown g q ≡ shown begun q
+  pub source_same : (g : List Entry) → IsFirst opening tree settled end g → IsAtSince begun g → (live_jobs g ≡ [] → ⊥) → shown g q ≡ shown begun q
   source_same [] first same live_one = ap (λ x. shown x q) (sym same)
   source_same (e ∷ g) first (inl same) live_one = ap (λ x. shown x q) (sym same)
   source_same (e ∷ g) first (inr (none, since)) live_one = same_more e g first since none (λ alive. source_same g (before_newest opening tree settled end e g first) since alive) live_one

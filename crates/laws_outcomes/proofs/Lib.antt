@@ -13,6 +13,7 @@ pub mod CutKeeps
 pub mod CutLive
 pub mod CutMoments
 pub mod CutMoves
+pub mod CutParts
 pub mod CutSteps
 pub mod CutValues
 pub mod Deciding
@@ -28,6 +29,7 @@ pub mod KeptSessions
 pub mod KeptTargets
 pub mod KeptTrees
 pub mod LinkWork
+pub mod MadeExample
 pub mod MadeThings
 pub mod MergedExample
 pub mod MergedMoveExample

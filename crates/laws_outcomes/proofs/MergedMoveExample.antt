@@ -49,31 +49,31 @@ use Rattle.laws_outcomes.proofs.UntouchedSteps.{untouched_law}
 use Rattle.laws_outcomes.proofs.Outcome.{outcome_law}
 
 -- the root holds two folders, under the names 1 and 2, and in the first stands a file under the name 3
-abbrev with_from : FileSystem
+abbrev pub with_from : FileSystem
 with_from = after_change bare (Makes 0 (1 ∷ []) folder)
 
-abbrev with_both : FileSystem
+abbrev pub with_both : FileSystem
 with_both = after_change with_from (Makes 0 (2 ∷ []) folder)
 
-abbrev small : FileSystem
+abbrev pub small : FileSystem
 small = after_change with_both (Makes 1 (3 ∷ []) file)
 
-small_tree : IsTree small
+pub small_tree : IsTree small
 small_tree = tree_made with_both 1 (3 ∷ []) file (tree_made with_from 0 (2 ∷ []) folder (tree_made bare 0 (1 ∷ []) folder bare_tree refl) refl) refl
 
-abbrev name : List ℕ
+abbrev pub name : List ℕ
 name = 3 ∷ []
 
-abbrev outer : Pair
+abbrev pub outer : Pair
 outer = record { source = (1 ∷ []) ∷ []; target = (2 ∷ []) ∷ [] }
 
-abbrev inner : Pair
+abbrev pub inner : Pair
 inner = record { source = name ∷ outer.source; target = name ∷ outer.target }
 
-abbrev root : Route
+abbrev pub root : Route
 root = []
 
-abbrev log : List Change → CallLog
+abbrev pub log : List Change → CallLog
 log changes = record { opening = small; changes = changes }
 
 abbrev job : Work → Running
@@ -86,7 +86,7 @@ abbrev removes : RemovalStage → Work
 removes stage = RemoveEmptied (record { path = outer.source; stage = stage })
 
 -- the job begins
-abbrev begun_entries : List Entry
+abbrev pub begun_entries : List Entry
 begun_entries = entry 0 (Began 1 (plan.Move (outer ∷ [])) false) ∷ []
 
 begun_traced : IsTraced (log []) begun_entries (stand (job (moves outer moving.Take) ∷ []) []) (log [])
@@ -130,7 +130,7 @@ short n (inr none) = absurd none
 may_merge : MayMerge outer ByMove outer (name ∷ [])
 may_merge = record { by_move = refl; its = refl; held = refl; apart = refl; short = short; in_order = (tt, tt); few = omega arith }
 
-abbrev merged_entries : List Entry
+abbrev pub merged_entries : List Entry
 merged_entries = entry 0 (Step 1 (Merges ByMove outer (name ∷ []))) ∷ begun_entries
 
 merged_traced : IsTraced (log []) merged_entries (stand (job (moves outer moving.PassedOver) ∷ []) []) (log [])
@@ -147,10 +147,10 @@ merged_traced =
     }) refl refl refl
 
 -- it goes on with the file
-abbrev turn : Entry
+abbrev pub turn : Entry
 turn = entry 0 (Next 1 (plan.Move (inner ∷ [])))
 
-abbrev turned_entries : List Entry
+abbrev pub turned_entries : List Entry
 turned_entries = turn ∷ merged_entries
 
 turned_traced : IsTraced (log []) turned_entries (stand (job (moves inner moving.Take) ∷ []) []) (log [])
@@ -182,7 +182,7 @@ turned_traced = (
 )
 
 -- which is renamed
-abbrev renamed : Change
+abbrev pub renamed : Change
 renamed = Moves 1 name 2 name 3 None
 
 abbrev moved_log : CallLog
@@ -194,7 +194,7 @@ may_move = record {
   free = inl refl;
 }
 
-abbrev moved_entries : List Entry
+abbrev pub moved_entries : List Entry
 moved_entries = entry 1 (Step 1 (Moved inner)) ∷ turned_entries
 
 moved_traced : IsTraced (log []) moved_entries (stand (job (moves inner moving.SyncTarget) ∷ []) (outer.target ∷ outer.source ∷ [])) moved_log
@@ -214,7 +214,7 @@ moved_traced =
 abbrev target_log : CallLog
 target_log = log (renamed ∷ Syncs 2 ∷ [])
 
-abbrev target_entries : List Entry
+abbrev pub target_entries : List Entry
 target_entries = entry 2 (Step 1 Barrier) ∷ moved_entries
 
 target_traced : IsTraced (log []) target_entries (stand (job (moves inner moving.SyncSource) ∷ []) (outer.source ∷ [])) target_log
@@ -233,7 +233,7 @@ target_traced =
 abbrev source_log : CallLog
 source_log = log (renamed ∷ Syncs 2 ∷ Syncs 1 ∷ [])
 
-abbrev source_entries : List Entry
+abbrev pub source_entries : List Entry
 source_entries = entry 3 (Step 1 Barrier) ∷ target_entries
 
 source_traced : IsTraced (log []) source_entries (stand (job (moves inner moving.Finish) ∷ []) []) source_log
@@ -250,10 +250,10 @@ source_traced =
     }) refl refl refl
 
 -- it goes on with the emptied folder
-abbrev last_turn : Entry
+abbrev pub last_turn : Entry
 last_turn = entry 3 (Next 1 (plan.RemoveEmptied outer.source))
 
-abbrev emptied_entries : List Entry
+abbrev pub emptied_entries : List Entry
 emptied_entries = last_turn ∷ source_entries
 
 emptied_traced : IsTraced (log []) emptied_entries (stand (job (removes removal.Remove) ∷ []) []) source_log
@@ -288,7 +288,7 @@ emptied_traced = (
 abbrev removed_log : CallLog
 removed_log = log (renamed ∷ Syncs 2 ∷ Syncs 1 ∷ Removes 0 (1 ∷ []) 1 ∷ [])
 
-abbrev removed_entries : List Entry
+abbrev pub removed_entries : List Entry
 removed_entries = entry 4 (Step 1 (Removed outer.source)) ∷ emptied_entries
 
 removed_traced : IsTraced (log []) removed_entries (stand (job (removes removal.Sync) ∷ []) (root ∷ [])) removed_log
@@ -304,10 +304,10 @@ removed_traced =
       walks = (1, 0, 0, tt);
     }) refl refl refl
 
-abbrev last_log : CallLog
+abbrev pub last_log : CallLog
 last_log = log (renamed ∷ Syncs 2 ∷ Syncs 1 ∷ Removes 0 (1 ∷ []) 1 ∷ Syncs 0 ∷ [])
 
-abbrev last_entries : List Entry
+abbrev pub last_entries : List Entry
 last_entries = entry 5 (Step 1 Barrier) ∷ removed_entries
 
 last_traced : IsTraced (log []) last_entries (stand (job (removes removal.Finish) ∷ []) []) last_log
@@ -323,10 +323,10 @@ last_traced =
       walks = (1, 0, 0, tt);
     }) refl refl refl
 
-abbrev end : Entry
+abbrev pub end : Entry
 end = entry 5 (Step 1 (Ended Finished None))
 
-ended_traced : IsTraced (log []) (end ∷ last_entries) (stand [] []) last_log
+pub ended_traced : IsTraced (log []) (end ∷ last_entries) (stand [] []) last_log
 ended_traced =
     own_step (log []) 1 5 (Ended Finished None) last_entries (stand (job (removes removal.Finish) ∷ []) []) (stand [] []) last_log last_log (job (removes removal.Finish)) (job (removes removal.Finish)) last_traced (inl (refl, refl))
     (record {

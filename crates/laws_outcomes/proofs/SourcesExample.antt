@@ -26,16 +26,16 @@ use Rattle.laws_outcomes.proofs.Together.{all_sources_law}
 abbrev given_log : CallLog
 given_log = log (given ∷ Syncs 1 ∷ Sets 2 mode ∷ [])
 
-abbrev synced_log : CallLog
+abbrev pub synced_log : CallLog
 synced_log = log (given ∷ Syncs 1 ∷ Sets 2 mode ∷ Syncs 2 ∷ [])
 
-abbrev given_entries : List Entry
+abbrev pub given_entries : List Entry
 given_entries = entry 3 (Step 1 (Set another)) ∷ turned_entries
 
-abbrev both_entries : List Entry
+abbrev pub both_entries : List Entry
 both_entries = entry 4 (Step 1 Barrier) ∷ given_entries
 
-abbrev end : Entry
+abbrev pub end : Entry
 end = entry 4 (Step 1 (Ended Finished None))
 
 given_traced : IsTraced (log []) given_entries (stand (gives another Sync ∷ []) (another ∷ [])) given_log
@@ -63,7 +63,7 @@ synced_traced =
       walks = (1, 0, 0, tt);
     }) refl refl refl
 
-ended_traced : IsTraced (log []) (end ∷ both_entries) (stand [] []) synced_log
+pub ended_traced : IsTraced (log []) (end ∷ both_entries) (stand [] []) synced_log
 ended_traced =
     own_step (log []) 1 4 (Ended Finished None) both_entries (stand (gives another Done ∷ []) []) (stand [] []) synced_log synced_log (gives another Done) (gives another Done) synced_traced (inl (refl, refl))
     (record {

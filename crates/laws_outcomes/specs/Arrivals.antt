@@ -20,6 +20,17 @@ abbrev pub copies_of : Option Value → List Value
 copies_of None = []
 copies_of (Some x) = copies_as x.kind x
 
+-- over what stands comes the copy of a file or a link; of a folder at most its mode
+abbrev pub copies_over : Kind → Value → List Value
+copies_over Folder x = with_mode x.mode new_folder ∷ []
+copies_over File x = placed_copy x ∷ []
+copies_over Link x = placed_copy x ∷ []
+copies_over Other x = placed_copy x ∷ []
+
+abbrev pub overs_of : Option Value → List Value
+overs_of None = []
+overs_of (Some x) = copies_over x.kind x
+
 abbrev pub only : Option Value → List Value
 only None = []
 only (Some x) = x ∷ []
@@ -34,3 +45,13 @@ new_things (MakesLink made text) stood path = new_link text ∷ []
 new_things (Sets thing mode) stood path = map (with_mode mode) (only (stood path))
 new_things (Removes top) stood path = []
 new_things (RemovesEmptied folder) stood path = []
+
+-- and what may come to one at which something stands: nothing is made there
+abbrev pub over_things : ItemOfJob → (Route → Option Value) → Route → List Value
+over_things (Copies source target) stood path = overs_of (stood (moved_from source target path))
+over_things (Moves source target) stood path = only (stood (moved_from source target path))
+over_things (Makes made) stood path = []
+over_things (MakesLink made text) stood path = []
+over_things (Sets thing mode) stood path = map (with_mode mode) (only (stood path))
+over_things (Removes top) stood path = []
+over_things (RemovesEmptied folder) stood path = []

@@ -63,10 +63,11 @@ pub fn mc_run<N: Tag, T: Tree, K: Source, S: Sink, P: Spawner, C: Clock, G: Gate
     // Whenever the power is cut, inside a call too: what is copied is as it was; where something stood at a
     // target stands that, or the new thing, whole, and where nothing stood nothing, or the new thing, whole;
     // what is moved is whole at its source, or at its target, with all that lay in it; what is deleted is
-    // whole, or gone; and all else is as it was. Each is said from where a source is taken up until one is
-    // that touches the path, of a move until any is. Excepted are paths that were ever parts, and what wasn't
-    // on the disk when the source was taken up. The tree has the shape of one at the opening, with nothing
-    // pending.
+    // whole, or gone; and all else is as it was. Each is said from any moment at which a job is at a source
+    // and has changed nothing for it yet, until a step for another one names the path, of a move until a
+    // change is begun for another one. Excepted are what wasn't on the disk then, parts, and of paths at
+    // which nothing stood those that were ever parts. The tree had the shape of one at the opening, with
+    // nothing pending.
     ensures keeps { IfKnown (T.contents tree) (λ opening. IfKnown (T.contents result.tree) (λ now.
         IsKeepingRun opening now (reverse result.history.entries))) }
 
