@@ -1,7 +1,7 @@
 """The repository's crates, the functions of their files, and copies in which functions are stand-ins.
 
-A stand-in is a function whose body is `unreachable!()` and whose proof is one hole. Its contract stands, and a contract is all that what calls a function sees
-of it, so its callers are checked as ever, and nothing that it calls is.
+A stand-in is a function whose body is `unreachable!()` and whose proof is one hole. Its contract stands, and that is all that its
+callers see of it, so they are checked as ever, and nothing that it calls is.
 """
 import os
 import re
@@ -185,7 +185,8 @@ def write_hole(crate, place, names):
 
 
 def stand_in(crate, folder, kept=None):
-    """Makes stand-ins of a crate's free functions and plain methods, and counts them. With names kept those stay, and so does what is in a cycle of calls."""
+    """Makes stand-ins of a crate's free functions and plain methods, and counts them. With names kept those stay as they are, and
+    so does what is in a cycle of calls."""
     sources = sources_of(f"{folder}/src")
     homes, proofs, count = homes_of(sources), f"{folder}/proofs", 0
     os.makedirs(proofs, exist_ok=True)
@@ -215,7 +216,7 @@ def is_in_cycle(text, function):
 
 
 def copy_with_stand_ins(root, crate, copy, kept=None):
-    """Copies a crate and all below it, which are stand-ins there, with `bench/from_source`; with names kept all others of the crate are, too."""
+    """Copies a crate over stand-ins of all below, with `bench/from_source`; with names kept its other functions are stand-ins, too."""
     all_uses = uses(root)
     os.makedirs(f"{copy}/crates", exist_ok=True)
     shutil.copy(f"{root}/crates.txt", f"{copy}/crates.txt")
