@@ -69,35 +69,15 @@ abbrev pub IsOther : Did → Type 0
 IsOther (Asked question) = ⊥
 IsOther (Kept path) = ⊥
 IsOther (Began part) = ⊥
-IsOther (Chunk count) = ⊤
-IsOther (Placed path) = ⊤
-IsOther (Removed path) = ⊤
-IsOther (Made path) = ⊤
-IsOther (Set path) = ⊤
-IsOther (Skipped path cause) = ⊤
-IsOther (Cleaned part) = ⊤
-IsOther Barrier = ⊤
 IsOther (Merges transfer pair names) = ⊥
-IsOther (Moved pair) = ⊤
-IsOther (Troubled trouble) = ⊤
-IsOther (Ended ending part) = ⊤
+IsOther did = ⊤
 
 pub other_as : (replies : Replies) (source target : Route) (v : View) (did : Did) → IsOther did → IsAsAnswered replies source target v did
 other_as replies source target v (Asked question) h = absurd h
 other_as replies source target v (Kept path) h = absurd h
 other_as replies source target v (Began part) h = absurd h
-other_as replies source target v (Chunk count) h = tt
-other_as replies source target v (Placed path) h = tt
-other_as replies source target v (Removed path) h = tt
-other_as replies source target v (Made path) h = tt
-other_as replies source target v (Set path) h = tt
-other_as replies source target v (Skipped path cause) h = tt
-other_as replies source target v (Cleaned part) h = tt
-other_as replies source target v Barrier h = tt
 other_as replies source target v (Merges transfer pair names) h = absurd h
-other_as replies source target v (Moved pair) h = tt
-other_as replies source target v (Troubled trouble) h = tt
-other_as replies source target v (Ended ending part) h = tt
+other_as replies source target v did h = tt
 
 pub passed_other : (did : Did) → SaysPassed did → IsOther did
 passed_other did (inl (path, cause, is)) = subst IsOther (sym is) tt
@@ -112,37 +92,17 @@ told_other folder_did.Closed did is = absurd is
 
 file_other : (f moved : Copying) (did : Did) → file.Tells f did moved → (f.stage ≡ file_stage.Begin → ⊥) → IsOther did
 file_other f moved (Began part) t begun = absurd (begun t.0)
-file_other f moved (Chunk count) t begun = tt
-file_other f moved (Placed path) t begun = tt
-file_other f moved (Cleaned part) t begun = tt
-file_other f moved Barrier t begun = tt
-file_other f moved (Troubled trouble) t begun = tt
-file_other f moved (Ended ending part) t begun = tt
 file_other f moved (Asked question) t begun = absurd t
 file_other f moved (Kept path) t begun = absurd t
-file_other f moved (Skipped path cause) t begun = tt
-file_other f moved (Removed path) t begun = tt
-file_other f moved (Made path) t begun = tt
-file_other f moved (Set path) t begun = tt
 file_other f moved (Merges transfer pair names) t begun = absurd t
-file_other f moved (Moved pair) t begun = tt
+file_other f moved did t begun = tt
 
 link_other : (l moved : LinkCopying) (did : Did) → link.Tells l did moved → (l.stage ≡ link_stage.Make → ⊥) → IsOther did
 link_other l moved (Began part) t begun = absurd (begun t.0)
-link_other l moved (Chunk count) t begun = tt
-link_other l moved (Placed path) t begun = tt
-link_other l moved (Cleaned part) t begun = tt
-link_other l moved Barrier t begun = tt
-link_other l moved (Troubled trouble) t begun = tt
-link_other l moved (Ended ending part) t begun = tt
 link_other l moved (Asked question) t begun = absurd t
 link_other l moved (Kept path) t begun = absurd t
-link_other l moved (Skipped path cause) t begun = tt
-link_other l moved (Removed path) t begun = tt
-link_other l moved (Made path) t begun = tt
-link_other l moved (Set path) t begun = tt
 link_other l moved (Merges transfer pair names) t begun = absurd t
-link_other l moved (Moved pair) t begun = tt
+link_other l moved did t begun = tt
 
 -- nothing stands there, so nothing is replaced
 pub none_there : {A : Type 0} (o : Option Value) → o ≡ None → is_some o ≡ true → A
@@ -205,38 +165,18 @@ module _ (log : CallLog) (v : View) (top : Pair) (unclaimed : Route → Type 0) 
   file_as : (pair : Pair) (facts : SourceFacts) (moved : Copying) → IsMoved top pair.source pair.target → IsOpen (current log) (is_top old) replies pair → ShowsTree v log → (d : Did) → TellsMade facts (file.begun_copy old.job pair.source pair.target) d moved
       → MadeCalls unclaimed facts (file.begun_copy old.job pair.source pair.target) d log after → As d
   file_as pair facts moved m onto shows (Began part) t called = begins_as pair called.0 part called.1 m onto shows
-  file_as pair facts moved m onto shows (Troubled trouble) t called = tt
   file_as pair facts moved m onto shows (Asked question) t called = absurd t
   file_as pair facts moved m onto shows (Kept path) t called = absurd t
-  file_as pair facts moved m onto shows (Chunk count) t called = tt
-  file_as pair facts moved m onto shows (Placed path) t called = tt
-  file_as pair facts moved m onto shows (Removed path) t called = tt
-  file_as pair facts moved m onto shows (Made path) t called = tt
-  file_as pair facts moved m onto shows (Set path) t called = tt
-  file_as pair facts moved m onto shows (Skipped path cause) t called = tt
-  file_as pair facts moved m onto shows (Cleaned part) t called = tt
-  file_as pair facts moved m onto shows Barrier t called = tt
   file_as pair facts moved m onto shows (Merges transfer told names) t called = absurd t
-  file_as pair facts moved m onto shows (Moved told) t called = tt
-  file_as pair facts moved m onto shows (Ended ending part) t called = tt
+  file_as pair facts moved m onto shows did t called = tt
 
   link_as : (pair : Pair) (k : ℕ) (part : Route) (moved : LinkCopying) → part ≡ part_path (places old.job pair.source pair.target) k → IsMoved top pair.source pair.target → IsOpen (current log) (is_top old) replies pair → ShowsTree v log
       → (d : Did) → link.Tells (link_begun pair part) d moved → As d
   link_as pair k part moved part_is m onto shows (Began made) (stage, made_is, new_is) = begins_as pair k made (made_is ∙ part_is) m onto shows
-  link_as pair k part moved part_is m onto shows (Troubled trouble) t = tt
   link_as pair k part moved part_is m onto shows (Asked question) t = absurd t
   link_as pair k part moved part_is m onto shows (Kept path) t = absurd t
-  link_as pair k part moved part_is m onto shows (Chunk count) t = tt
-  link_as pair k part moved part_is m onto shows (Placed path) t = tt
-  link_as pair k part moved part_is m onto shows (Removed path) t = tt
-  link_as pair k part moved part_is m onto shows (Made path) t = tt
-  link_as pair k part moved part_is m onto shows (Set path) t = tt
-  link_as pair k part moved part_is m onto shows (Skipped path cause) t = tt
-  link_as pair k part moved part_is m onto shows (Cleaned left) t = tt
-  link_as pair k part moved part_is m onto shows Barrier t = tt
   link_as pair k part moved part_is m onto shows (Merges transfer told names) t = absurd t
-  link_as pair k part moved part_is m onto shows (Moved told) t = tt
-  link_as pair k part moved part_is m onto shows (Ended ending left) t = tt
+  link_as pair k part moved part_is m onto shows did t = tt
 
   moved_as : (pair : Pair) → due old ≡ Thing pair → IsMoved top pair.source pair.target
   moved_as pair next = pair_moved top old.levels.inner.names.names old pair refl next place

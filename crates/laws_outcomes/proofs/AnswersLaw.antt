@@ -64,18 +64,8 @@ tree_wound : (ending : Ending) (stands : Option Route) (did : Did) → MayTellLa
 tree_wound ending stands (Asked question) w = absurd w
 tree_wound ending stands (Kept path) w = absurd w
 tree_wound ending stands (Began part) w = absurd w
-tree_wound ending stands (Chunk count) w = tt
-tree_wound ending stands (Placed path) w = tt
-tree_wound ending stands (Removed path) w = tt
-tree_wound ending stands (Made path) w = tt
-tree_wound ending stands (Set path) w = tt
-tree_wound ending stands (Skipped path cause) w = tt
-tree_wound ending stands (Cleaned part) w = tt
-tree_wound ending stands Barrier w = tt
 tree_wound ending stands (Merges transfer pair names) w = absurd w
-tree_wound ending stands (Moved pair) w = tt
-tree_wound ending stands (Troubled trouble) w = tt
-tree_wound ending stands (Ended how part) w = tt
+tree_wound ending stands did w = tt
 
 -- what a job that works on an item reports is as was answered
 abbrev IsAs : Replies → View → ItemOfJob → Did → Type 0
@@ -151,19 +141,7 @@ ended_as replies v (RemovesEmptied folder) ending part = tt
 move_wound : (replies : Replies) (v : View) (ending : Ending) (m new : Moving) (did : Did) → movings.Winds ending m did new → (let pair = m.pair in IsMovedAsAnswered replies pair.source pair.target v did)
 move_wound replies v ending m new Barrier w = tt
 move_wound replies v ending m new (Ended how part) w = tt
-move_wound replies v ending m new (Asked question) w = absurd w
-move_wound replies v ending m new (Kept path) w = absurd w
-move_wound replies v ending m new (Began part) w = absurd w
-move_wound replies v ending m new (Chunk count) w = absurd w
-move_wound replies v ending m new (Placed path) w = absurd w
-move_wound replies v ending m new (Removed path) w = absurd w
-move_wound replies v ending m new (Made path) w = absurd w
-move_wound replies v ending m new (Set path) w = absurd w
-move_wound replies v ending m new (Skipped path cause) w = absurd w
-move_wound replies v ending m new (Cleaned part) w = absurd w
-move_wound replies v ending m new (Merges transfer pair names) w = absurd w
-move_wound replies v ending m new (Moved pair) w = absurd w
-move_wound replies v ending m new (Troubled trouble) w = absurd w
+move_wound replies v ending m new did w = absurd w
 
 work_wound : (replies : Replies) (v : View) (ending : Ending) (old new : Work) (did : Did) → WorkWinds ending old did new → IsAs replies v (item_in old) did
 work_wound replies v ending (Copy c) (Copy new) did w = (let top = c.top in other_as replies top.source top.target v did (tree_wound ending (part_of c.at.item) did w.may))

@@ -60,38 +60,12 @@ JobsSaid asks said (job ∷ jobs) = JobSaid asks said job
 
 said_before : (did : Did) (asks : ℕ → Bool) (said : ℕ → Replies) (new : Running) → Unless did (JobSaid asks said new) → JobsSaid asks said (before_others (unless_ended did new) [])
 said_before (Ended ending part) asks said new h = tt
-said_before (Began part) asks said new h = h
-said_before (Chunk count) asks said new h = h
-said_before (Placed path) asks said new h = h
-said_before (Removed path) asks said new h = h
-said_before (Made made) asks said new h = h
-said_before (Set path) asks said new h = h
-said_before (Kept path) asks said new h = h
-said_before (Skipped path cause) asks said new h = h
-said_before (Cleaned part) asks said new h = h
-said_before Barrier asks said new h = h
-said_before (Asked question) asks said new h = h
-said_before (Merges transfer pair names) asks said new h = h
-said_before (Moved pair) asks said new h = h
-said_before (Troubled trouble) asks said new h = h
+said_before did asks said new h = h
 
 -- a step of a job that goes on
 goes_said : (did : Did) (said replies : Replies) → to_questions replies ≡ said → Unless did (UnlessEnding (course_after did) (IsSaid (asks_by did) said (course_after did) replies))
 goes_said (Ended ending part) said replies is = tt
-goes_said (Began part) said replies is = (refl, is)
-goes_said (Chunk count) said replies is = (refl, is)
-goes_said (Placed path) said replies is = (refl, is)
-goes_said (Removed path) said replies is = (refl, is)
-goes_said (Made made) said replies is = (refl, is)
-goes_said (Set path) said replies is = (refl, is)
-goes_said (Kept path) said replies is = (refl, is)
-goes_said (Skipped path cause) said replies is = (refl, is)
-goes_said (Cleaned part) said replies is = (refl, is)
-goes_said Barrier said replies is = (refl, is)
-goes_said (Asked question) said replies is = (refl, is)
-goes_said (Merges transfer pair names) said replies is = (refl, is)
-goes_said (Moved pair) said replies is = (refl, is)
-goes_said (Troubled trouble) said replies is = (refl, is)
+goes_said did said replies is = (refl, is)
 
 course_said : (job new : Running) (did : Did) (course : Course) (asks : Bool) (said : Replies) → job.course ≡ course → TellsOn course job did new → UnlessEnding course (IsSaid asks said course job.replies)
     → Unless did (UnlessEnding new.course (IsSaid (asks_by did) said new.course new.replies))

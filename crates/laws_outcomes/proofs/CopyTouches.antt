@@ -32,17 +32,8 @@ by_names top (Placed placed) path may names changed = is_target top placed path 
 by_names top (Made made) path may names changed = is_target top made path names (one_path made path changed)
 by_names top (Set set) path may names changed = is_target top set path names (one_path set path changed)
 by_names top (Removed gone) path may names changed = absurd may
-by_names top (Began part) path may names changed = absurd changed
-by_names top (Chunk count) path may names changed = absurd changed
-by_names top (Kept kept) path may names changed = absurd changed
-by_names top (Asked question) path may names changed = absurd changed
-by_names top (Merges transfer pair within) path may names changed = absurd changed
 by_names top (Moved pair) path may names changed = absurd may
-by_names top (Skipped left cause) path may names changed = absurd changed
-by_names top (Cleaned part) path may names changed = absurd changed
-by_names top Barrier path may names changed = absurd changed
-by_names top (Troubled trouble) path may names changed = absurd changed
-by_names top (Ended ending part) path may names changed = absurd changed
+by_names top did path may names changed = absurd changed
 
 module _ (c new : SubtreeCopying) (did : Did) (path : Route) (free : Route → Bool) (replies : Replies) (count : ℕ) (dirty dirty_after : List Route) (before after : Option CallLog) (f0 f1 : ℕ)
     (s : SubtreeSteps free replies c new did count dirty dirty_after before after f0 f1) (in_place : IsInPlace c.top c.at) (may : MayTell did) (changed : IsChanged did path) where

@@ -56,20 +56,13 @@ NamesPart did path = ⊥
 named_how : (did : Did) (path : Route) → names did path ≡ true → IsChanged did path ⊎ NamesPart did path
 named_how (Began part) path h = inr (sym (same_path-true path part h))
 named_how (Cleaned part) path h = inr (sym (same_path-true path part h))
-named_how (Ended ending None) path h = absurd (false≢true h)
 named_how (Ended ending (Some part)) path h = inr (ap (λ p. (let o : Option Route = Some p in o)) (sym (same_path-true path part h)))
 named_how (Placed target) path h = inl (inl (same_path-true path target h))
 named_how (Removed gone) path h = inl (inl (same_path-true path gone h))
 named_how (Made made) path h = inl (inl (same_path-true path made h))
 named_how (Set set) path h = inl (inl (same_path-true path set h))
 named_how (Moved pair) path h = inl h
-named_how (Chunk count) path h = absurd (false≢true h)
-named_how (Kept kept) path h = absurd (false≢true h)
-named_how (Skipped left cause) path h = absurd (false≢true h)
-named_how Barrier path h = absurd (false≢true h)
-named_how (Asked question) path h = absurd (false≢true h)
-named_how (Merges transfer pair within) path h = absurd (false≢true h)
-named_how (Troubled trouble) path h = absurd (false≢true h)
+named_how did path h = absurd (false≢true h)
 
 -- then it begins that part, or it is the one that stands
 module _ (v : View) (stood : Option Route) where

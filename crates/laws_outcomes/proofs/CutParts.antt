@@ -40,18 +40,7 @@ left_step (Moved pair) left path unnamed among = elim (among_both (paths_moved p
   | inl moved ↦ absurd (both_ways _ (off_both pair path unnamed).1 (moved_part_below pair left path moved))
   | inr off ↦ (among_passed (λ p. not (is_prefix pair.source p)) path left off).1
 ]
-left_step (Began part) left path unnamed among = among
-left_step (Placed target) left path unnamed among = among
-left_step (Chunk count) left path unnamed among = among
-left_step (Set changed) left path unnamed among = among
-left_step (Made folder) left path unnamed among = among
-left_step (Kept kept) left path unnamed among = among
-left_step (Asked question) left path unnamed among = among
-left_step (Merges transfer pair names) left path unnamed among = among
-left_step (Skipped file cause) left path unnamed among = among
-left_step (Cleaned part) left path unnamed among = among
-left_step Barrier left path unnamed among = among
-left_step (Troubled trouble) left path unnamed among = among
+left_step did left path unnamed among = among
 
 pub left_event : (what : Event) (left : List Route) (path : Route) → names_path what path ≡ false → Among (left_after what left) path → Among left path
 left_event (Step id did) left path unnamed among = left_step did left path unnamed among

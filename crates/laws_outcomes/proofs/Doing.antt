@@ -79,38 +79,12 @@ JobsDone passed begun v s (job ∷ jobs) = JobDone (passed job.id) (begun job.id
 
 on_course : (did : Did) (passed : List Route) (begun v : View) (s : FileSystem) (work : Work) → Unless did (WorkDone passed begun v s work) → Unless did (CourseDone (course_after did) passed begun v s work)
 on_course (Ended ending part) passed begun v s work h = tt
-on_course (Began part) passed begun v s work h = h
-on_course (Chunk count) passed begun v s work h = h
-on_course (Placed path) passed begun v s work h = h
-on_course (Removed path) passed begun v s work h = h
-on_course (Made made) passed begun v s work h = h
-on_course (Set path) passed begun v s work h = h
-on_course (Kept kept) passed begun v s work h = h
-on_course (Asked question) passed begun v s work h = h
-on_course (Merges transfer pair names) passed begun v s work h = h
-on_course (Moved pair) passed begun v s work h = h
-on_course (Skipped path cause) passed begun v s work h = h
-on_course (Cleaned part) passed begun v s work h = h
-on_course Barrier passed begun v s work h = h
-on_course (Troubled trouble) passed begun v s work h = h
+on_course did passed begun v s work h = h
 
 -- of the jobs after a report
 pub jobs_after : (did : Did) (passed : ℕ → List Route) (begun : ℕ → View) (v : View) (s : FileSystem) (new : Running) → Unless did (JobDone (passed new.id) (begun new.id) v s new) → JobsDone passed begun v s (before_others (unless_ended did new) [])
 jobs_after (Ended ending part) passed begun v s new h = tt
-jobs_after (Began part) passed begun v s new h = h
-jobs_after (Chunk count) passed begun v s new h = h
-jobs_after (Placed path) passed begun v s new h = h
-jobs_after (Removed path) passed begun v s new h = h
-jobs_after (Made made) passed begun v s new h = h
-jobs_after (Set path) passed begun v s new h = h
-jobs_after (Kept kept) passed begun v s new h = h
-jobs_after (Asked question) passed begun v s new h = h
-jobs_after (Merges transfer pair names) passed begun v s new h = h
-jobs_after (Moved pair) passed begun v s new h = h
-jobs_after (Skipped path cause) passed begun v s new h = h
-jobs_after (Cleaned part) passed begun v s new h = h
-jobs_after Barrier passed begun v s new h = h
-jobs_after (Troubled trouble) passed begun v s new h = h
+jobs_after did passed begun v s new h = h
 
 -- something is passed over
 skips_work : (old new : Work) (cause : Cause) (path : Route) (passed : List Route) (begun v : View) (s : FileSystem) → PassesOver old path new → SkipWalks cause old (Skipped path cause) new → WorkDone passed begun v s old → WorkDone (path ∷ passed) begun v s new
@@ -154,20 +128,7 @@ skips_work (Make m) (RemoveEmptied new) cause path passed begun v s p w k = absu
 -- of a job that keeps nothing of its own what is passed over is what was skipped
 in_plain : (item : ItemOfJob) (did : Did) (passed : List Route) → kept_of (Some item) passed ≡ passed → passed_in (Some item) did passed ≡ passed_by did passed
 in_plain item (Kept path) passed plain = plain
-in_plain item (Skipped path cause) passed plain = refl
-in_plain item (Began part) passed plain = refl
-in_plain item (Chunk count) passed plain = refl
-in_plain item (Placed path) passed plain = refl
-in_plain item (Removed path) passed plain = refl
-in_plain item (Made made) passed plain = refl
-in_plain item (Set path) passed plain = refl
-in_plain item (Asked question) passed plain = refl
-in_plain item (Merges transfer pair names) passed plain = refl
-in_plain item (Moved pair) passed plain = refl
-in_plain item (Cleaned part) passed plain = refl
-in_plain item Barrier passed plain = refl
-in_plain item (Troubled trouble) passed plain = refl
-in_plain item (Ended ending part) passed plain = refl
+in_plain item did passed plain = refl
 
 makes_plain : (new : NewThing) (path : Route) (passed : List Route) → kept_of (Some (making_item new path)) passed ≡ passed
 makes_plain thing.Folder path passed = refl

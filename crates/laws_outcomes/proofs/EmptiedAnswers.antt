@@ -160,30 +160,10 @@ module _ (v : View) (log : CallLog) (shows : ShowsTree v log) where
   emptied_as replies r new Barrier after t called = tt
   emptied_as replies r new (Troubled trouble) after t called = tt
   emptied_as replies r new (Ended ending part) after t called = tt
-  emptied_as replies r new (Asked question) after t called = absurd t
-  emptied_as replies r new (Began part) after t called = absurd t
-  emptied_as replies r new (Chunk count) after t called = absurd t
-  emptied_as replies r new (Placed path) after t called = absurd t
-  emptied_as replies r new (Made path) after t called = absurd t
-  emptied_as replies r new (Set path) after t called = absurd t
-  emptied_as replies r new (Cleaned part) after t called = absurd t
-  emptied_as replies r new (Merges transfer pair names) after t called = absurd t
-  emptied_as replies r new (Moved pair) after t called = absurd t
+  emptied_as replies r new did after t called = absurd t
 
 -- last steps neither remove nor keep it
 pub emptied_wound : (v : View) (ending : Ending) (r new : Removing) (did : Did) → Winds ending r did new → IsRemovedIfEmpty r.path v did
 emptied_wound v ending r new Barrier w = tt
 emptied_wound v ending r new (Ended how part) w = tt
-emptied_wound v ending r new (Removed path) w = absurd w
-emptied_wound v ending r new (Kept path) w = absurd w
-emptied_wound v ending r new (Skipped path cause) w = absurd w
-emptied_wound v ending r new (Troubled trouble) w = absurd w
-emptied_wound v ending r new (Asked question) w = absurd w
-emptied_wound v ending r new (Began part) w = absurd w
-emptied_wound v ending r new (Chunk count) w = absurd w
-emptied_wound v ending r new (Placed path) w = absurd w
-emptied_wound v ending r new (Made path) w = absurd w
-emptied_wound v ending r new (Set path) w = absurd w
-emptied_wound v ending r new (Cleaned part) w = absurd w
-emptied_wound v ending r new (Merges transfer pair names) w = absurd w
-emptied_wound v ending r new (Moved pair) w = absurd w
+emptied_wound v ending r new did w = absurd w

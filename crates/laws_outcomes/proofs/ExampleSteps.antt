@@ -44,14 +44,6 @@ IsStep replies old new did calls dirty dirty_after before now = SubtreeSteps any
 
 -- a report that tells of no name and of no trouble
 abbrev IsOwn : Did → Type 0
-IsOwn (Began part) = ⊤
-IsOwn (Chunk count) = ⊤
-IsOwn (Placed path) = ⊤
-IsOwn (Made path) = ⊤
-IsOwn (Set path) = ⊤
-IsOwn (Cleaned part) = ⊤
-IsOwn Barrier = ⊤
-IsOwn (Ended ending part) = ⊤
 IsOwn (Removed path) = ⊥
 IsOwn (Kept path) = ⊥
 IsOwn (Skipped path cause) = ⊥
@@ -59,6 +51,7 @@ IsOwn (Asked question) = ⊥
 IsOwn (Merges transfer pair names) = ⊥
 IsOwn (Moved pair) = ⊥
 IsOwn (Troubled trouble) = ⊥
+IsOwn did = ⊤
 
 pub tells_own : (replies : Replies) (old new : SubtreeCopying) (did : Did) → IsOwn did → MayTell did → IsAfter did old new → (is_fresh old.at.stage ≡ true → MayBegin did) → (IsOver old.at → IsOver new.at × (changes did ≡ false)) → Tells replies old did new
 tells_own replies old new did own may after first over = record {

@@ -133,17 +133,7 @@ module _ (now : CallLog) (v : View) (passed : List Route) (top : Pair) where
     file_goes f moved (Troubled trouble) m (barrier, new_is) begun d = subst (λ (x : Copying). Done v x.source x.target x.stage) (sym new_is) d
     file_goes f moved (Ended Finished part) m (stage, synced, part_is, new_is) begun d =
         subst (λ (x : Copying). Done (Then (Ended Finished part)) x.source x.target x.stage) (sym new_is) (subst (λ p. Done (Then (Ended Finished p)) f.source f.target f.stage) (sym part_is) d)
-    file_goes f moved (Ended Aborted part) m t begun d = absurd t
-    file_goes f moved (Ended Killed part) m t begun d = absurd t
-    file_goes f moved (Ended NoMemory part) m t begun d = absurd t
-    file_goes f moved (Removed path) m t begun d = absurd t
-    file_goes f moved (Made path) m t begun d = absurd t
-    file_goes f moved (Set path) m t begun d = absurd t
-    file_goes f moved (Kept path) m t begun d = absurd t
-    file_goes f moved (Asked question) m t begun d = absurd t
-    file_goes f moved (Merges transfer pair names) m t begun d = absurd t
-    file_goes f moved (Moved pair) m t begun d = absurd t
-    file_goes f moved (Skipped path cause) m t begun d = absurd t
+    file_goes f moved did m t begun d = absurd t
 
 -- a file that is skipped is covered
 module _ (v : View) (passed : List Route) (top : Pair) (around : List Level) where

@@ -34,20 +34,7 @@ pub record TreeSpares (v was : View) (kept : Bool) (c : SubtreeCopying) : Type 0
 -- a report that isn't the end
 unless_both : {A : Type 0} (did : Did) (P : Type 0) → Unless did P → (P → A) → Unless did A
 unless_both (Ended ending part) P h f = tt
-unless_both (Began part) P h f = f h
-unless_both (Chunk count) P h f = f h
-unless_both (Placed path) P h f = f h
-unless_both (Removed path) P h f = f h
-unless_both (Made path) P h f = f h
-unless_both (Set path) P h f = f h
-unless_both (Kept path) P h f = f h
-unless_both (Skipped path cause) P h f = f h
-unless_both (Cleaned part) P h f = f h
-unless_both Barrier P h f = f h
-unless_both (Asked question) P h f = f h
-unless_both (Merges transfer pair names) P h f = f h
-unless_both (Moved pair) P h f = f h
-unless_both (Troubled trouble) P h f = f h
+unless_both did P h f = f h
 
 -- a step
 module _ (now : CallLog) (work : Option ItemOfJob) (v was : View) (kept : Bool) (c new : SubtreeCopying) (did : Did) (free : Route → Bool) (replies : Replies) (count : ℕ) (dirty dirty_after : List Route) (before after : Option CallLog) (f0 f1 : ℕ)

@@ -41,16 +41,7 @@ module _ (now : CallLog) (v : View) (passed : List Route) (top : Pair) (around :
       subst (λ (x : LinkCopying). Done v x.source x.target x.stage) (sym new_is) (by_clean l.source l.target follows (subst (λ s. Done v l.source l.target s) stage d))
   link_goes l moved Barrier m (stage, dirty, new_is) d = subst (λ (x : LinkCopying). Done v x.source x.target x.stage) (sym new_is) d
   link_goes l moved (Troubled trouble) m (barrier, new_is) d = subst (λ (x : LinkCopying). Done v x.source x.target x.stage) (sym new_is) d
-  link_goes l moved (Chunk count) m t d = absurd t
-  link_goes l moved (Ended ending part) m t d = absurd t
-  link_goes l moved (Removed path) m t d = absurd t
-  link_goes l moved (Made path) m t d = absurd t
-  link_goes l moved (Set path) m t d = absurd t
-  link_goes l moved (Kept path) m t d = absurd t
-  link_goes l moved (Asked question) m t d = absurd t
-  link_goes l moved (Merges transfer pair names) m t d = absurd t
-  link_goes l moved (Moved pair) m t d = absurd t
-  link_goes l moved (Skipped path cause) m t d = absurd t
+  link_goes l moved did m t d = absurd t
 
 -- a link that is skipped is covered
 module _ (v : View) (passed : List Route) (top : Pair) (around : List Level) where

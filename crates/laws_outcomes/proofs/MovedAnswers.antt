@@ -87,10 +87,4 @@ module _ (v : View) (log : CallLog) (tree : IsTree (current log)) (shows : Shows
   moved_as replies m new Barrier after t called = tt
   moved_as replies m new (Troubled trouble) after t called = tt
   moved_as replies m new (Ended ending part) after t called = tt
-  moved_as replies m new (Began part) after t called = absurd t
-  moved_as replies m new (Chunk count) after t called = absurd t
-  moved_as replies m new (Placed path) after t called = absurd t
-  moved_as replies m new (Removed path) after t called = absurd t
-  moved_as replies m new (Made path) after t called = absurd t
-  moved_as replies m new (Set path) after t called = absurd t
-  moved_as replies m new (Cleaned part) after t called = absurd t
+  moved_as replies m new did after t called = absurd t

@@ -96,13 +96,7 @@ moving_steps replies m new (Merges transfer pair names) log passed begun v apart
 moving_steps replies m new (Asked question) log passed begun v apart (stage, new_is) k = subst (λ (x : Moving). MovingDone passed begun v x) (sym new_is) k
 moving_steps replies m new (Troubled trouble) log passed begun v apart t k = subst (λ (x : Moving). MovingDone passed begun v x) (sym t.3) k
 moving_steps replies m new (Ended ending part) log passed begun v apart t k = tt
-moving_steps replies m new (Began part) log passed begun v apart t k = absurd t
-moving_steps replies m new (Chunk count) log passed begun v apart t k = absurd t
-moving_steps replies m new (Set path) log passed begun v apart t k = absurd t
-moving_steps replies m new (Made path) log passed begun v apart t k = absurd t
-moving_steps replies m new (Placed path) log passed begun v apart t k = absurd t
-moving_steps replies m new (Removed path) log passed begun v apart t k = absurd t
-moving_steps replies m new (Cleaned part) log passed begun v apart t k = absurd t
+moving_steps replies m new did log passed begun v apart t k = absurd t
 
 pub moving_skips : (m new : Moving) (path : Route) (passed : List Route) (begun v : View) → at_barrier m.stage ≡ false → path ≡ m.pair.source → new ≡ record m { stage = skipped_stage m.stage } → MovingDone passed begun v m
     → MovingDone (path ∷ passed) begun v new
@@ -132,17 +126,8 @@ moving_ends m passed begun v done k = by m.stage done k
 -- and it touches nothing but its two paths, and what lies below them
 pub moving_touches : (replies : Replies) (m new : Moving) (did : Did) (path : Route) → Tells replies m did new → IsChanged did path → touches (Moves m.pair.source m.pair.target) path ≡ true
 moving_touches replies m new (Moved pair) path (stage, pair_is, new_is) changed = subst (λ (p : Pair). is_of_move p path ≡ true) pair_is changed
-moving_touches replies m new (Kept p) path t none = absurd none
-moving_touches replies m new (Skipped p cause) path t none = absurd none
-moving_touches replies m new Barrier path t none = absurd none
-moving_touches replies m new (Asked question) path t none = absurd none
-moving_touches replies m new (Troubled trouble) path t none = absurd none
-moving_touches replies m new (Ended ending part) path t none = absurd none
-moving_touches replies m new (Began part) path t none = absurd none
-moving_touches replies m new (Chunk count) path t none = absurd none
 moving_touches replies m new (Set p) path t among = absurd t
 moving_touches replies m new (Made p) path t among = absurd t
 moving_touches replies m new (Placed p) path t among = absurd t
 moving_touches replies m new (Removed p) path t among = absurd t
-moving_touches replies m new (Merges transfer pair names) path t none = absurd none
-moving_touches replies m new (Cleaned part) path t none = absurd none
+moving_touches replies m new did path t none = absurd none

@@ -50,15 +50,7 @@ removal_steps replies r new Barrier log passed begun v (stage, new_is) k =
     subst (λ (x : Removing). RemovalDone passed begun v x) (sym new_is) (subst (λ st. RemovalAt st r.path passed begun v) stage k)
 removal_steps replies r new (Troubled trouble) log passed begun v t k = subst (λ (x : Removing). RemovalDone passed begun v x) (sym t.3) k
 removal_steps replies r new (Ended ending part) log passed begun v t k = tt
-removal_steps replies r new (Began part) log passed begun v t k = absurd t
-removal_steps replies r new (Chunk count) log passed begun v t k = absurd t
-removal_steps replies r new (Placed path) log passed begun v t k = absurd t
-removal_steps replies r new (Made path) log passed begun v t k = absurd t
-removal_steps replies r new (Set path) log passed begun v t k = absurd t
-removal_steps replies r new (Asked question) log passed begun v t k = absurd t
-removal_steps replies r new (Merges transfer pair names) log passed begun v t k = absurd t
-removal_steps replies r new (Moved pair) log passed begun v t k = absurd t
-removal_steps replies r new (Cleaned part) log passed begun v t k = absurd t
+removal_steps replies r new did log passed begun v t k = absurd t
 
 pub removal_skips : (r new : Removing) (path : Route) (passed : List Route) (begun v : View) → at_barrier r.stage ≡ false → path ≡ r.path → new ≡ record r { stage = skipped_stage r.stage } → RemovalDone passed begun v r
     → RemovalDone (path ∷ passed) begun v new
@@ -83,11 +75,6 @@ removal_ends r passed begun v done k = by r.stage done k
 pub removal_touches : (replies : Replies) (r new : Removing) (did : Did) (path : Route) → Tells replies r did new → IsChanged did path → same_path path r.path ≡ true
 removal_touches replies r new (Removed p) path (stage, path_is, new_is) (inl is) = subst (λ (q : Route). same_path q r.path ≡ true) (sym (is ∙ path_is)) (same_path-self r.path)
 removal_touches replies r new (Removed p) path t (inr none) = absurd none
-removal_touches replies r new (Kept p) path t none = absurd none
-removal_touches replies r new (Skipped p cause) path t none = absurd none
-removal_touches replies r new Barrier path t none = absurd none
-removal_touches replies r new (Troubled trouble) path t none = absurd none
-removal_touches replies r new (Ended ending part) path t none = absurd none
 removal_touches replies r new (Began part) path t none = absurd t
 removal_touches replies r new (Chunk count) path t none = absurd t
 removal_touches replies r new (Placed p) path t among = absurd t
@@ -97,3 +84,4 @@ removal_touches replies r new (Asked question) path t none = absurd t
 removal_touches replies r new (Merges transfer pair names) path t none = absurd t
 removal_touches replies r new (Moved pair) path t changed = absurd t
 removal_touches replies r new (Cleaned part) path t none = absurd t
+removal_touches replies r new did path t none = absurd none

@@ -92,14 +92,6 @@ fresh_before did stage h = by (changes did) h
 
 -- a report that changes nothing that can be seen, and keeps nothing
 abbrev IsPlain : Did → Type 0
-IsPlain (Began part) = ⊤
-IsPlain (Chunk count) = ⊤
-IsPlain (Skipped path cause) = ⊤
-IsPlain (Cleaned part) = ⊤
-IsPlain Barrier = ⊤
-IsPlain (Asked question) = ⊤
-IsPlain (Troubled trouble) = ⊤
-IsPlain (Ended ending part) = ⊤
 IsPlain (Placed path) = ⊥
 IsPlain (Removed path) = ⊥
 IsPlain (Made path) = ⊥
@@ -107,6 +99,7 @@ IsPlain (Set path) = ⊥
 IsPlain (Kept path) = ⊥
 IsPlain (Merges transfer pair names) = ⊥
 IsPlain (Moved pair) = ⊥
+IsPlain did = ⊤
 
 pub says_plain : (did : Did) → SaysPassed did → IsPlain did
 says_plain did (inl (path, cause, is)) = subst IsPlain (sym is) tt
@@ -124,31 +117,12 @@ of_file f moved (Cleaned part) t = inl tt
 of_file f moved Barrier t = inl tt
 of_file f moved (Troubled trouble) t = inl tt
 of_file f moved (Ended ending part) t = inl tt
-of_file f moved (Asked question) t = absurd t
-of_file f moved (Skipped path cause) t = absurd t
-of_file f moved (Removed path) t = absurd t
-of_file f moved (Made path) t = absurd t
-of_file f moved (Set path) t = absurd t
-of_file f moved (Kept path) t = absurd t
-of_file f moved (Merges transfer pair names) t = absurd t
-of_file f moved (Moved pair) t = absurd t
+of_file f moved did t = absurd t
 
 of_part : (facts : SourceFacts) (f moved : Copying) (did : Did) → TellsMade facts f did moved → IsPlain did
 of_part facts f moved (Began part) t = tt
 of_part facts f moved (Troubled trouble) t = tt
-of_part facts f moved (Chunk count) t = absurd t
-of_part facts f moved (Placed path) t = absurd t
-of_part facts f moved (Removed path) t = absurd t
-of_part facts f moved (Made path) t = absurd t
-of_part facts f moved (Set path) t = absurd t
-of_part facts f moved (Kept path) t = absurd t
-of_part facts f moved (Skipped path cause) t = absurd t
-of_part facts f moved (Cleaned part) t = absurd t
-of_part facts f moved Barrier t = absurd t
-of_part facts f moved (Asked question) t = absurd t
-of_part facts f moved (Merges transfer pair names) t = absurd t
-of_part facts f moved (Moved pair) t = absurd t
-of_part facts f moved (Ended ending part) t = absurd t
+of_part facts f moved did t = absurd t
 
 of_link : (l moved : LinkCopying) (did : Did) → link.Tells l did moved → IsOfItem did (link_progress moved.stage)
 of_link l moved (Placed path) (stage, path_is, new_is) = inr (path, refl, ap (λ (x : LinkCopying). link_progress x.stage) new_is)
@@ -156,16 +130,7 @@ of_link l moved (Began part) t = inl tt
 of_link l moved (Cleaned part) t = inl tt
 of_link l moved Barrier t = inl tt
 of_link l moved (Troubled trouble) t = inl tt
-of_link l moved (Chunk count) t = absurd t
-of_link l moved (Ended ending part) t = absurd t
-of_link l moved (Asked question) t = absurd t
-of_link l moved (Skipped path cause) t = absurd t
-of_link l moved (Removed path) t = absurd t
-of_link l moved (Made path) t = absurd t
-of_link l moved (Set path) t = absurd t
-of_link l moved (Kept path) t = absurd t
-of_link l moved (Merges transfer pair names) t = absurd t
-of_link l moved (Moved pair) t = absurd t
+of_link l moved did t = absurd t
 
 -- names that are met, once the next one is done with
 some_due : (c : Seen) (names : List (List ℕ)) (pair : Pair) → due_at names c ≡ Thing pair → names ≡ [] → ⊥
@@ -212,13 +177,6 @@ module _ (now : CallLog) (v was : View) (kept : Bool) (work : Option WorkItem) (
   After did new = Unless did (Spared (replayed_step now did work v) was (keeps_by did kept) new)
 
   pub told : (did : Did) (new : Seen) → IsPlain did → Spared v was kept new → After did new
-  told (Began part) new plain s = s
-  told (Chunk count) new plain s = s
-  told (Skipped path cause) new plain s = s
-  told (Cleaned part) new plain s = s
-  told Barrier new plain s = s
-  told (Asked question) new plain s = s
-  told (Troubled trouble) new plain s = s
   told (Ended ending part) new plain s = tt
   told (Placed path) new plain s = absurd plain
   told (Removed path) new plain s = absurd plain
@@ -227,6 +185,7 @@ module _ (now : CallLog) (v was : View) (kept : Bool) (work : Option WorkItem) (
   told (Kept path) new plain s = absurd plain
   told (Merges transfer pair names) new plain s = absurd plain
   told (Moved pair) new plain s = absurd plain
+  told did new plain s = s
 
   -- a step at a file or a link
   item_spared : (p : Progress) (item : ItemAtWork) (did : Did) (dirty : Bool) (old new : Seen) → IsOfItem did p → (IsPassed old → ⊥) → new ≡ copy_after_progress p item (noted_copy did dirty (idle old)) → IsInPlace top old → Spared v was kept old → After did new

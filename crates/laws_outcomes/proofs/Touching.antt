@@ -62,20 +62,7 @@ unless_ending (Ends ending) Holds h = tt
 
 unless_map : (did : Did) (A B : Type 0) → (A → B) → Unless did A → Unless did B
 unless_map (Ended ending part) A B to a = tt
-unless_map (Began part) A B to a = to a
-unless_map (Chunk count) A B to a = to a
-unless_map (Placed path) A B to a = to a
-unless_map (Removed path) A B to a = to a
-unless_map (Made made) A B to a = to a
-unless_map (Set path) A B to a = to a
-unless_map (Kept kept) A B to a = to a
-unless_map (Asked question) A B to a = to a
-unless_map (Merges transfer pair names) A B to a = to a
-unless_map (Moved pair) A B to a = to a
-unless_map (Skipped path cause) A B to a = to a
-unless_map (Cleaned part) A B to a = to a
-unless_map Barrier A B to a = to a
-unless_map (Troubled trouble) A B to a = to a
+unless_map did A B to a = to a
 
 -- each path that the item doesn't touch shows what it showed there
 abbrev pub IsAsBegun : View → View → ItemOfJob → Type 0
@@ -90,20 +77,7 @@ JobsKept v was (job ∷ jobs) = JobKept v was job
 
 pub kept_after : (did : Did) (v : View) (was : ℕ → View) (new : Running) → Unless did (JobKept v was new) → JobsKept v was (before_others (unless_ended did new) [])
 kept_after (Ended ending part) v was new h = tt
-kept_after (Began part) v was new h = h
-kept_after (Chunk count) v was new h = h
-kept_after (Placed path) v was new h = h
-kept_after (Removed path) v was new h = h
-kept_after (Made made) v was new h = h
-kept_after (Set path) v was new h = h
-kept_after (Kept kept) v was new h = h
-kept_after (Asked question) v was new h = h
-kept_after (Merges transfer pair names) v was new h = h
-kept_after (Moved pair) v was new h = h
-kept_after (Skipped path cause) v was new h = h
-kept_after (Cleaned part) v was new h = h
-kept_after Barrier v was new h = h
-kept_after (Troubled trouble) v was new h = h
+kept_after did v was new h = h
 
 -- what a report makes of the tree elsewhere than at the path that it changes
 pub placed_off : (item : Option ItemOfJob) (path : Route) (v : View) (p : Route) → same_path p path ≡ false → placed_by item path v p ≡ v p
@@ -134,17 +108,9 @@ step_else (Removed path) log item v on = λ p off. put_off v path None p (apart 
 step_else (Placed path) log item v on = λ p off. placed_off (Some item) path v p (apart item path p (on path (inl refl)) off)
 step_else (Made path) log item v on = λ p off. put_off v path (Some (made_by (Some item) path v)) p (apart item path p (on path (inl refl)) off)
 step_else (Set path) log item v on = λ p off. set_off (Some item) path v p (apart item path p (on path (inl refl)) off)
-step_else (Began part) log item v on = λ p off. refl
-step_else (Chunk count) log item v on = λ p off. refl
-step_else (Kept kept) log item v on = λ p off. refl
-step_else (Asked question) log item v on = λ p off. refl
-step_else (Merges transfer pair names) log item v on = λ p off. refl
 step_else (Moved pair) log item v on = λ p off. moved_off pair v p (false_from_ne_true _ (λ of. both_ways _ off (on p of)))
-step_else (Skipped path cause) log item v on = λ p off. refl
-step_else (Cleaned part) log item v on = λ p off. refl
-step_else Barrier log item v on = λ p off. refl
-step_else (Troubled trouble) log item v on = λ p off. refl
 step_else (Ended ending part) log item v on = tt
+step_else did log item v on = λ p off. refl
 
 -- one path was changed
 one_path : (a b : Route) → Among (a ∷ []) b → b ≡ a
@@ -154,19 +120,11 @@ one_path a b (inr none) = absurd none
 deletion_touches : (replies : Replies) (d new : Deleting) (did : Did) (path : Route) → deletions.Tells replies d did new → IsChanged did path → is_prefix d.path path ≡ true
 deletion_touches replies d new (Removed p) path (off, within, at) is = subst (λ (q : Route). is_prefix d.path q ≡ true) (sym (one_path p path is)) within
 deletion_touches replies d new (Kept p) path t is = absurd is
-deletion_touches replies d new (Asked question) path t is = absurd t
-deletion_touches replies d new (Merges transfer pair names) path t is = absurd t
-deletion_touches replies d new (Moved pair) path t is = absurd t
 deletion_touches replies d new (Skipped p why) path t is = absurd is
 deletion_touches replies d new (Troubled trouble) path t is = absurd is
 deletion_touches replies d new Barrier path t is = absurd is
 deletion_touches replies d new (Ended ending part) path t is = absurd is
-deletion_touches replies d new (Began part) path t is = absurd t
-deletion_touches replies d new (Chunk count) path t is = absurd t
-deletion_touches replies d new (Placed p) path t is = absurd t
-deletion_touches replies d new (Made p) path t is = absurd t
-deletion_touches replies d new (Set p) path t is = absurd t
-deletion_touches replies d new (Cleaned part) path t is = absurd t
+deletion_touches replies d new did path t is = absurd t
 
 making_touches : (m new : Making) (did : Did) (path : Route) → makings.Tells m did new → IsChanged did path → touches (making_item m.thing m.path) path ≡ true
 making_touches m new (Made p) path (stage, path_is, new_is) is = by m.thing (subst (λ (q : Route). same_path q m.path ≡ true) (sym path_is ∙ sym (one_path p path is)) (same_path-self m.path))
@@ -177,34 +135,15 @@ making_touches m new (Made p) path (stage, path_is, new_is) is = by m.thing (sub
 making_touches m new Barrier path t is = absurd is
 making_touches m new (Troubled trouble) path t is = absurd is
 making_touches m new (Ended ending part) path t is = absurd is
-making_touches m new (Began part) path t is = absurd t
-making_touches m new (Chunk count) path t is = absurd t
-making_touches m new (Set p) path t is = absurd t
-making_touches m new (Placed p) path t is = absurd t
-making_touches m new (Removed p) path t is = absurd t
-making_touches m new (Kept kept) path t is = absurd t
-making_touches m new (Asked question) path t is = absurd t
-making_touches m new (Merges transfer pair names) path t is = absurd t
-making_touches m new (Moved pair) path t is = absurd t
-making_touches m new (Skipped p why) path t is = absurd t
-making_touches m new (Cleaned part) path t is = absurd t
+making_touches m new did path t is = absurd t
 
 setting_touches : (replies : Replies) (s new : Setting) (did : Did) (path : Route) → settings.Tells replies s did new → IsChanged did path → same_path path s.path ≡ true
 setting_touches replies s new (Set p) path (stage, path_is, new_is) is = subst (λ (q : Route). same_path q s.path ≡ true) (sym path_is ∙ sym (one_path p path is)) (same_path-self s.path)
 setting_touches replies s new Barrier path t is = absurd is
 setting_touches replies s new (Troubled trouble) path t is = absurd is
 setting_touches replies s new (Ended ending part) path t is = absurd is
-setting_touches replies s new (Began part) path t is = absurd t
-setting_touches replies s new (Chunk count) path t is = absurd t
-setting_touches replies s new (Made p) path t is = absurd t
-setting_touches replies s new (Placed p) path t is = absurd t
-setting_touches replies s new (Removed p) path t is = absurd t
-setting_touches replies s new (Kept kept) path t is = absurd t
-setting_touches replies s new (Asked question) path t is = absurd t
-setting_touches replies s new (Merges transfer pair names) path t is = absurd t
-setting_touches replies s new (Moved pair) path t is = absurd t
 setting_touches replies s new (Skipped p why) path t is = absurd is
-setting_touches replies s new (Cleaned part) path t is = absurd t
+setting_touches replies s new did path t is = absurd t
 
 module _ (dirty dirty_after : List Route) (log now : CallLog) (passed : List Route) (begun v : View) where
   work_touches : (replies : Replies) (old new : Work) (did : Did) (path : Route) (calls faults faults_after : ℕ) → WorkTells replies old did new → Walks IsUnclaimed replies old new did calls dirty dirty_after (Some log) (Some now) faults faults_after

@@ -47,17 +47,7 @@ file_paths f moved (Cleaned part) (follows, stage, new_is) = (ap (λ (x : Copyin
 file_paths f moved Barrier (stage, dirty, new_is) = (ap (λ (x : Copying). x.source) new_is, ap (λ (x : Copying). x.target) new_is)
 file_paths f moved (Troubled trouble) (barrier, new_is) = (ap (λ (x : Copying). x.source) new_is, ap (λ (x : Copying). x.target) new_is)
 file_paths f moved (Ended Finished part) (stage, synced, part_is, new_is) = (ap (λ (x : Copying). x.source) new_is, ap (λ (x : Copying). x.target) new_is)
-file_paths f moved (Ended Aborted part) t = absurd t
-file_paths f moved (Ended Killed part) t = absurd t
-file_paths f moved (Ended NoMemory part) t = absurd t
-file_paths f moved (Removed path) t = absurd t
-file_paths f moved (Made path) t = absurd t
-file_paths f moved (Set path) t = absurd t
-file_paths f moved (Kept path) t = absurd t
-file_paths f moved (Asked question) t = absurd t
-file_paths f moved (Merges transfer pair names) t = absurd t
-file_paths f moved (Moved pair) t = absurd t
-file_paths f moved (Skipped path cause) t = absurd t
+file_paths f moved did t = absurd t
 
 pub link_paths : (l moved : LinkCopying) (did : Did) → link.Tells l did moved → (moved.source ≡ l.source) × (moved.target ≡ l.target)
 link_paths l moved (Began part) (stage, part_is, new_is) = (ap (λ (x : LinkCopying). x.source) new_is, ap (λ (x : LinkCopying). x.target) new_is)
@@ -65,16 +55,7 @@ link_paths l moved (Placed path) (stage, path_is, new_is) = (ap (λ (x : LinkCop
 link_paths l moved (Cleaned part) (follows, stage, part_is, new_is) = (ap (λ (x : LinkCopying). x.source) new_is, ap (λ (x : LinkCopying). x.target) new_is)
 link_paths l moved Barrier (stage, dirty, new_is) = (ap (λ (x : LinkCopying). x.source) new_is, ap (λ (x : LinkCopying). x.target) new_is)
 link_paths l moved (Troubled trouble) (barrier, new_is) = (ap (λ (x : LinkCopying). x.source) new_is, ap (λ (x : LinkCopying). x.target) new_is)
-link_paths l moved (Chunk count) t = absurd t
-link_paths l moved (Ended ending part) t = absurd t
-link_paths l moved (Removed path) t = absurd t
-link_paths l moved (Made path) t = absurd t
-link_paths l moved (Set path) t = absurd t
-link_paths l moved (Kept path) t = absurd t
-link_paths l moved (Asked question) t = absurd t
-link_paths l moved (Merges transfer pair names) t = absurd t
-link_paths l moved (Moved pair) t = absurd t
-link_paths l moved (Skipped path cause) t = absurd t
+link_paths l moved did t = absurd t
 
 -- what a path of the source that doesn't lie at or below this one has come to
 abbrev pub Elsewhere : View → List Route → Pair → Level → List Level → Route → Type 0
@@ -204,17 +185,7 @@ module _ (now : CallLog) (v : View) (passed : List Route) (top : Pair) where
   file_changes around f moved Barrier m t d = quiet Barrier around f.source f.target m refl
   file_changes around f moved (Troubled trouble) m t d = quiet (Troubled trouble) around f.source f.target m refl
   file_changes around f moved (Ended Finished part) m (stage, synced, part_is, new_is) d = subst (λ p. Changes (Ended Finished p) around f.target) (sym part_is) (quiet (Ended Finished None) around f.source f.target m refl)
-  file_changes around f moved (Ended Aborted part) m t d = absurd t
-  file_changes around f moved (Ended Killed part) m t d = absurd t
-  file_changes around f moved (Ended NoMemory part) m t d = absurd t
-  file_changes around f moved (Removed path) m t d = absurd t
-  file_changes around f moved (Made path) m t d = absurd t
-  file_changes around f moved (Set path) m t d = absurd t
-  file_changes around f moved (Kept path) m t d = absurd t
-  file_changes around f moved (Asked question) m t d = absurd t
-  file_changes around f moved (Merges transfer pair names) m t d = absurd t
-  file_changes around f moved (Moved pair) m t d = absurd t
-  file_changes around f moved (Skipped path cause) m t d = absurd t
+  file_changes around f moved did m t d = absurd t
 
   link_changes : (around : List Level) (l moved : LinkCopying) (did : Did) → IsMoved top l.source l.target → link.Tells l did moved → LinkDone v passed top.target around l.source l.target l.stage → Changes did around l.target
   link_changes around l moved (Placed path) m (stage, path_is, new_is) d =
@@ -224,16 +195,7 @@ module _ (now : CallLog) (v : View) (passed : List Route) (top : Pair) where
   link_changes around l moved (Cleaned part) m t d = quiet (Cleaned part) around l.source l.target m refl
   link_changes around l moved Barrier m t d = quiet Barrier around l.source l.target m refl
   link_changes around l moved (Troubled trouble) m t d = quiet (Troubled trouble) around l.source l.target m refl
-  link_changes around l moved (Chunk count) m t d = absurd t
-  link_changes around l moved (Ended ending part) m t d = absurd t
-  link_changes around l moved (Removed path) m t d = absurd t
-  link_changes around l moved (Made path) m t d = absurd t
-  link_changes around l moved (Set path) m t d = absurd t
-  link_changes around l moved (Kept path) m t d = absurd t
-  link_changes around l moved (Asked question) m t d = absurd t
-  link_changes around l moved (Merges transfer pair names) m t d = absurd t
-  link_changes around l moved (Moved pair) m t d = absurd t
-  link_changes around l moved (Skipped path cause) m t d = absurd t
+  link_changes around l moved did m t d = absurd t
 
   -- of other paths it is so still
   module _ (old : Seen) (did : Did) (source target : Route) (m : IsMoved top source target) (ch : Changes did old.levels.around target) where
@@ -306,19 +268,7 @@ module _ (now : CallLog) (v : View) (passed : List Route) (top : Pair) where
           to = ap (λ (x : Copying). x.target) new_is;
           done = subst (λ d. Here d moved) (sym is) (subst (Here (Troubled trouble)) (sym new_is) (subst (λ s. FileDone v passed top.target old.levels.around f.source f.target s) (sym begin) tt));
         }
-        by (Chunk count) is t = absurd t
-        by (Placed path) is t = absurd t
-        by (Removed path) is t = absurd t
-        by (Made path) is t = absurd t
-        by (Set path) is t = absurd t
-        by (Kept path) is t = absurd t
-        by (Skipped path cause) is t = absurd t
-        by (Cleaned part) is t = absurd t
-        by Barrier is t = absurd t
-        by (Asked question) is t = absurd t
-        by (Merges transfer pair names) is t = absurd t
-        by (Moved pair) is t = absurd t
-        by (Ended ending part) is t = absurd t
+        by did is t = absurd t
 
     pub link_works : (l : LinkCopying) (before after : Option CallLog) → LinkWorks l old new did before after → IsMoved top l.source l.target → IsNext old.levels.inner l.source
         → LinkDone v passed top.target old.levels.around l.source l.target l.stage → TreeDone (Then did) (passed_at top did passed) top new

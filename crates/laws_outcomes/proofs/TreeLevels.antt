@@ -104,20 +104,9 @@ module _ (v w : View) (top : Pair) (path : Route) (change : IsChanged v w top.ta
 -- a report leaves covered what is
 pub covered_by : (top : Pair) (did : Did) (passed : List Route) (path : Route) → IsCovered passed path → IsCovered (passed_at top did passed) path
 covered_by top (Skipped left cause) passed path c = covered_more passed left path c
-covered_by top (Began part) passed path c = c
-covered_by top (Chunk count) passed path c = c
-covered_by top (Placed target) passed path c = c
-covered_by top (Removed gone) passed path c = c
-covered_by top (Made made) passed path c = c
-covered_by top (Set set) passed path c = c
 covered_by top (Kept kept) passed path c = covered_more passed top.source path c
-covered_by top (Asked question) passed path c = c
 covered_by top (Merges transfer pair names) passed path c = covered_more passed pair.source path c
-covered_by top (Moved pair) passed path c = c
-covered_by top (Cleaned part) passed path c = c
-covered_by top Barrier passed path c = c
-covered_by top (Troubled trouble) passed path c = c
-covered_by top (Ended ending part) passed path c = c
+covered_by top did passed path c = c
 
 -- the end of a folder is next where no name is
 pub no_name : (c : Seen) (names : List (List ℕ)) → due_at names c ≡ End → names ≡ []

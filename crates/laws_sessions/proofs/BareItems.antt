@@ -109,17 +109,7 @@ module _ (log now : CallLog) (name : List ℕ) (l : Levels) (p : Route) (h : Sta
         still moved (ap (λ (c : Copying). part_at c.stage) new_is) (subst Bare (sym d.is) (quiet log _ known.tree (λ n g m. refl) h))
     file_bare moved (Troubled trouble) (barrier, new_is) calls = still moved (ap (λ (c : Copying). part_at c.stage) new_is) (stops f.stage refl trouble.cause trouble.path calls)
     file_bare moved (Ended Finished part) (stage, clean, none, new_is) calls = still moved (ap (λ (c : Copying). part_at c.stage) new_is) (same (some_log now log calls))
-    file_bare moved (Ended Aborted part) tells calls = absurd tells
-    file_bare moved (Ended Killed part) tells calls = absurd tells
-    file_bare moved (Ended NoMemory part) tells calls = absurd tells
-    file_bare moved (Removed path) tells calls = absurd tells
-    file_bare moved (Made path) tells calls = absurd tells
-    file_bare moved (Set path) tells calls = absurd tells
-    file_bare moved (Kept path) tells calls = absurd tells
-    file_bare moved (Asked question) tells calls = absurd tells
-    file_bare moved (Merges transfer pair names) tells calls = absurd tells
-    file_bare moved (Moved pair) tells calls = absurd tells
-    file_bare moved (Skipped path why) tells calls = absurd tells
+    file_bare moved did tells calls = absurd tells
 
   module _ (c : LinkCopying) (known : LinkKnown log name l c) (off : has_part c.stage ≡ true → c.part ≡ p → ⊥) where
     rows_at : (stage : LinkStage) → c.stage ≡ stage → AllDone log (next_call (current log) c c.stage) (Some now) → AllDone log (next_call (current log) c stage) (Some now)
@@ -168,13 +158,4 @@ module _ (log now : CallLog) (name : List ℕ) (l : Levels) (p : Route) (h : Sta
         link_still moved (ap (λ (m : LinkCopying). m.part) new_is) (ap (λ (m : LinkCopying). has_part m.stage) new_is) (subst Bare (sym d.is) (quiet log _ known.tree (λ n g m. refl) h))
     link_bare moved (Troubled trouble) (barrier, new_is) calls =
         link_still moved (ap (λ (m : LinkCopying). m.part) new_is) (ap (λ (m : LinkCopying). has_part m.stage) new_is) (link_stops c.stage trouble.cause trouble.path calls)
-    link_bare moved (Chunk count) tells calls = absurd tells
-    link_bare moved (Ended ending part) tells calls = absurd tells
-    link_bare moved (Removed path) tells calls = absurd tells
-    link_bare moved (Made path) tells calls = absurd tells
-    link_bare moved (Set path) tells calls = absurd tells
-    link_bare moved (Kept path) tells calls = absurd tells
-    link_bare moved (Asked question) tells calls = absurd tells
-    link_bare moved (Merges transfer pair names) tells calls = absurd tells
-    link_bare moved (Moved pair) tells calls = absurd tells
-    link_bare moved (Skipped path why) tells calls = absurd tells
+    link_bare moved did tells calls = absurd tells

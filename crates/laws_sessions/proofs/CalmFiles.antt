@@ -98,14 +98,4 @@ module _ (unclaimed : Route → Type 0) (log now : CallLog) (files : IsOfFiles l
       as_stage moved f.stage (ap (λ (c : Copying). c.stage) new_is) (subst (λ (x : CallLog). IsCalmOr p x (AtPart f.stage p S)) (sym d.is) (calm_sync p (AtPart f.stage p S) log (found_node (current log) (folder_of f.target)) calm))
   file_calm moved (Troubled trouble) (barrier, new_is) calls = as_stage moved f.stage (ap (λ (c : Copying). c.stage) new_is) (stops f.stage refl trouble.cause trouble.path calls)
   file_calm moved (Ended Finished part) (stage, clean, none, new_is) calls = as_stage moved f.stage (ap (λ (c : Copying). c.stage) new_is) (same (some_log now log calls))
-  file_calm moved (Ended Aborted part) tells calls = absurd tells
-  file_calm moved (Ended Killed part) tells calls = absurd tells
-  file_calm moved (Ended NoMemory part) tells calls = absurd tells
-  file_calm moved (Removed path) tells calls = absurd tells
-  file_calm moved (Made path) tells calls = absurd tells
-  file_calm moved (Set path) tells calls = absurd tells
-  file_calm moved (Kept path) tells calls = absurd tells
-  file_calm moved (Asked question) tells calls = absurd tells
-  file_calm moved (Merges transfer pair names) tells calls = absurd tells
-  file_calm moved (Moved pair) tells calls = absurd tells
-  file_calm moved (Skipped path why) tells calls = absurd tells
+  file_calm moved did tells calls = absurd tells

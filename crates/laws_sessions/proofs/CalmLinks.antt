@@ -98,16 +98,7 @@ module _ (log now : CallLog) (files : IsOfFiles log) (name : List ℕ) (l : Leve
   link_calm p S moved (Cleaned part) (next, stage, part_is, new_is) (read, rows) known_part calm = removed p S (rows_at (at.Clean next) stage rows) calm
   link_calm p S moved Barrier (stage, dirty, new_is) (read, rows) known_part calm = synced p S (rows_at at.Decided stage rows) calm
   link_calm p S moved (Troubled trouble) tells calls known_part calm = stops p S c.stage trouble.cause trouble.path calls calm
-  link_calm p S moved (Chunk count) tells calls known_part calm = absurd tells
-  link_calm p S moved (Ended ending part) tells calls known_part calm = absurd tells
-  link_calm p S moved (Removed path) tells calls known_part calm = absurd tells
-  link_calm p S moved (Made path) tells calls known_part calm = absurd tells
-  link_calm p S moved (Set path) tells calls known_part calm = absurd tells
-  link_calm p S moved (Kept path) tells calls known_part calm = absurd tells
-  link_calm p S moved (Asked question) tells calls known_part calm = absurd tells
-  link_calm p S moved (Merges transfer pair names) tells calls known_part calm = absurd tells
-  link_calm p S moved (Moved pair) tells calls known_part calm = absurd tells
-  link_calm p S moved (Skipped path why) tells calls known_part calm = absurd tells
+  link_calm p S moved did tells calls known_part calm = absurd tells
 
   as_moved : (moved : LinkCopying) (stage : Stage) → moved.part ≡ c.part → moved.stage ≡ stage → has_part moved.stage ≡ true → (has_part stage ≡ true → IsCalmOr c.part now ⊥) → IsCalmOr moved.part now ⊥
   as_moved moved stage part_is stage_is has calm = subst (λ q. IsCalmOr q now ⊥) (sym part_is) (calm (sym (ap has_part stage_is) ∙ has))
@@ -122,13 +113,4 @@ module _ (log now : CallLog) (files : IsOfFiles log) (name : List ℕ) (l : Leve
   part_calm moved Barrier (stage, dirty, new_is) calls known_part has = absurd (false≢true (sym (ap (λ (m : LinkCopying). has_part m.stage) new_is ∙ ap has_part stage) ∙ has))
   part_calm moved (Troubled trouble) (barrier, new_is) calls known_part has =
       as_moved moved c.stage (ap (λ (m : LinkCopying). m.part) new_is) (ap (λ (m : LinkCopying). m.stage) new_is) has (λ it. stops c.part ⊥ c.stage trouble.cause trouble.path calls (known_part it))
-  part_calm moved (Chunk count) tells calls known_part has = absurd tells
-  part_calm moved (Ended ending part) tells calls known_part has = absurd tells
-  part_calm moved (Removed path) tells calls known_part has = absurd tells
-  part_calm moved (Made path) tells calls known_part has = absurd tells
-  part_calm moved (Set path) tells calls known_part has = absurd tells
-  part_calm moved (Kept path) tells calls known_part has = absurd tells
-  part_calm moved (Asked question) tells calls known_part has = absurd tells
-  part_calm moved (Merges transfer pair names) tells calls known_part has = absurd tells
-  part_calm moved (Moved pair) tells calls known_part has = absurd tells
-  part_calm moved (Skipped path why) tells calls known_part has = absurd tells
+  part_calm moved did tells calls known_part has = absurd tells

@@ -259,14 +259,4 @@ module _ (told : HistoryFacts) (dirty : List Route) (marks : Marks) (log now : C
   copy_tells new (Began part) going knows tells calls = not_begun c.stage going tells.0
   copy_tells new Barrier going knows tells calls = not_decided c.stage going tells.0
   copy_tells new (Ended Finished part) going knows tells calls = not_decided c.stage going tells.0
-  copy_tells new (Ended Aborted part) going knows tells calls = absurd tells
-  copy_tells new (Ended Killed part) going knows tells calls = absurd tells
-  copy_tells new (Ended NoMemory part) going knows tells calls = absurd tells
-  copy_tells new (Removed path) going knows tells calls = absurd tells
-  copy_tells new (Made made) going knows tells calls = absurd tells
-  copy_tells new (Set path) going knows tells calls = absurd tells
-  copy_tells new (Kept path) going knows tells calls = absurd tells
-  copy_tells new (Asked question) going knows tells calls = absurd tells
-  copy_tells new (Merges transfer pair names) going knows tells calls = absurd tells
-  copy_tells new (Moved pair) going knows tells calls = absurd tells
-  copy_tells new (Skipped path why) going knows tells calls = absurd tells
+  copy_tells new did going knows tells calls = absurd tells

@@ -74,14 +74,7 @@ module _ (told : HistoryFacts) (dirty dirty_after : List Route) (marks : Marks) 
   calm_then (Placed path) t = calm
   calm_then Barrier t = calm
   calm_then (Ended ending part) t = calm
-  calm_then (Removed path) t = absurd t
-  calm_then (Made path) t = absurd t
-  calm_then (Set path) t = absurd t
-  calm_then (Kept path) t = absurd t
-  calm_then (Asked question) t = absurd t
-  calm_then (Merges transfer pair names) t = absurd t
-  calm_then (Moved pair) t = absurd t
-  calm_then (Skipped path cause) t = absurd t
+  calm_then did t = absurd t
 
   -- a step of the file at work
   pub file_comes : StepRan told after dirty_after log now KnownThen

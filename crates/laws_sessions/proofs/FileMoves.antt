@@ -74,19 +74,7 @@ stops_moves unclaimed p at.Decided cause path log after stop = stop
 calls_moves : (unclaimed : Route → Type 0) (c new : Copying) (did : Did) (log : CallLog) (after : Option CallLog) → CopyCalls unclaimed c did new log after → MoveCalls unclaimed c did new log after
 calls_moves unclaimed c new (Began part) log after (ready, began_of, rest) = (open_free (current log) (places_of c) ready, began_of, rest)
 calls_moves unclaimed c new (Troubled trouble) log after stop = stops_moves unclaimed (places_of c) c.stage trouble.cause trouble.path log after stop
-calls_moves unclaimed c new (Chunk count) log after calls = calls
-calls_moves unclaimed c new (Placed path) log after calls = calls
-calls_moves unclaimed c new (Cleaned part) log after calls = calls
-calls_moves unclaimed c new Barrier log after calls = calls
-calls_moves unclaimed c new (Removed path) log after calls = calls
-calls_moves unclaimed c new (Made path) log after calls = calls
-calls_moves unclaimed c new (Set path) log after calls = calls
-calls_moves unclaimed c new (Kept path) log after calls = calls
-calls_moves unclaimed c new (Asked question) log after calls = calls
-calls_moves unclaimed c new (Merges transfer pair names) log after calls = calls
-calls_moves unclaimed c new (Moved pair) log after calls = calls
-calls_moves unclaimed c new (Skipped path cause) log after calls = calls
-calls_moves unclaimed c new (Ended ending part) log after calls = calls
+calls_moves unclaimed c new did log after calls = calls
 
 pub worked_moves : (unclaimed : Route → Type 0) (f : Copying) (old new : Seen) (did : Did) (before after : Option CallLog) → FileWorks unclaimed f old new did before after → FileMoves unclaimed f old new did before after
 worked_moves unclaimed f old new did before after w = record {
@@ -101,19 +89,7 @@ worked_moves unclaimed f old new did before after w = record {
 tells_made : (facts : SourceFacts) (f moved : Copying) (did : Did) → f.stage ≡ at.Begin → TellsMade facts f did moved → Tells f did moved
 tells_made facts f moved (Began part) begin is = (begin, (facts, is))
 tells_made facts f moved (Troubled trouble) begin (barrier, is) = (barrier ∙ sym (ap file.at_barrier begin), is)
-tells_made facts f moved (Chunk count) begin is = absurd is
-tells_made facts f moved (Placed path) begin is = absurd is
-tells_made facts f moved (Cleaned part) begin is = absurd is
-tells_made facts f moved Barrier begin is = absurd is
-tells_made facts f moved (Removed path) begin is = absurd is
-tells_made facts f moved (Made path) begin is = absurd is
-tells_made facts f moved (Set path) begin is = absurd is
-tells_made facts f moved (Kept path) begin is = absurd is
-tells_made facts f moved (Asked question) begin is = absurd is
-tells_made facts f moved (Merges transfer pair names) begin is = absurd is
-tells_made facts f moved (Moved pair) begin is = absurd is
-tells_made facts f moved (Skipped path cause) begin is = absurd is
-tells_made facts f moved (Ended ending part) begin is = absurd is
+tells_made facts f moved did begin is = absurd is
 
 module _ (unclaimed : Route → Type 0) (replies : Replies) (facts : SourceFacts) (job : ℕ) (pair : Pair) (moved : Copying) (log : CallLog) (after : Option CallLog) where
   abbrev f : Copying
@@ -133,19 +109,7 @@ module _ (unclaimed : Route → Type 0) (replies : Replies) (facts : SourceFacts
   )
   calls_made (Troubled trouble) top is (inl name) taken = inl name.1
   calls_made (Troubled trouble) top is (inr (k, first, run)) (there, said, open_to) = inr (k, first, subst (λ call. RunStops (call ∷ []) trouble.cause trouble.path log after) (same_call said k) run)
-  calls_made (Chunk count) top is calls taken = absurd is
-  calls_made (Placed path) top is calls taken = absurd is
-  calls_made (Cleaned part) top is calls taken = absurd is
-  calls_made Barrier top is calls taken = absurd is
-  calls_made (Removed path) top is calls taken = absurd is
-  calls_made (Made path) top is calls taken = absurd is
-  calls_made (Set path) top is calls taken = absurd is
-  calls_made (Kept path) top is calls taken = absurd is
-  calls_made (Asked question) top is calls taken = absurd is
-  calls_made (Merges transfer pair names) top is calls taken = absurd is
-  calls_made (Moved pair) top is calls taken = absurd is
-  calls_made (Skipped path cause) top is calls taken = absurd is
-  calls_made (Ended ending part) top is calls taken = absurd is
+  calls_made did top is calls taken = absurd is
 
 pub taken_moves : (unclaimed : Route → Type 0) (replies : Replies) (old new : Seen) (did : Did) (before after : Option CallLog) (t : TakesFile unclaimed replies old new did before after)
     → FileMoves unclaimed (file.begun_copy old.job t.pair.source t.pair.target) old new did before after

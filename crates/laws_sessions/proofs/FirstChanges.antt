@@ -65,20 +65,7 @@ record IsAsNamed (did : Did) : Type 0 where
 
 moves_or_names : (did : Did) → ((pair : Pair) × (did ≡ Moved pair)) ⊎ IsAsNamed did
 moves_or_names (Moved pair) = inl (pair, refl)
-moves_or_names (Began part) = inr (record { name_is = λ q. refl; thing_is = λ q. refl })
-moves_or_names (Removed path) = inr (record { name_is = λ q. refl; thing_is = λ q. refl })
-moves_or_names (Made path) = inr (record { name_is = λ q. refl; thing_is = λ q. refl })
-moves_or_names (Set path) = inr (record { name_is = λ q. refl; thing_is = λ q. refl })
-moves_or_names (Placed path) = inr (record { name_is = λ q. refl; thing_is = λ q. refl })
-moves_or_names (Cleaned gone) = inr (record { name_is = λ q. refl; thing_is = λ q. refl })
-moves_or_names (Chunk count) = inr (record { name_is = λ q. refl; thing_is = λ q. refl })
-moves_or_names (Kept kept) = inr (record { name_is = λ q. refl; thing_is = λ q. refl })
-moves_or_names (Asked question) = inr (record { name_is = λ q. refl; thing_is = λ q. refl })
-moves_or_names (Merges transfer pair within) = inr (record { name_is = λ q. refl; thing_is = λ q. refl })
-moves_or_names (Skipped path cause) = inr (record { name_is = λ q. refl; thing_is = λ q. refl })
-moves_or_names Barrier = inr (record { name_is = λ q. refl; thing_is = λ q. refl })
-moves_or_names (Troubled trouble) = inr (record { name_is = λ q. refl; thing_is = λ q. refl })
-moves_or_names (Ended ending part) = inr (record { name_is = λ q. refl; thing_is = λ q. refl })
+moves_or_names did = inr (record { name_is = λ q. refl; thing_is = λ q. refl })
 
 neither_is : (a b : Bool) → a ≡ false → b ≡ false → (a || b) ≡ false
 neither_is true b sure off = absurd (true≢false sure)

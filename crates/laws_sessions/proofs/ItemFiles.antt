@@ -84,14 +84,4 @@ module _ (unclaimed : Route → Type 0) (log now : CallLog) (name : List ℕ) (l
   file_item moved (Troubled trouble) met short (barrier, new_is) calls going p stands =
       stops f.stage refl trouble.cause trouble.path calls (sym (ap (λ (c : Copying). progress c.stage) new_is) ∙ going) p (sym (ap (λ (c : Copying). part_at c.stage) new_is) ∙ stands)
   file_item moved (Ended Finished part) met short (stage, clean, none, new_is) calls going p stands = absurd (not_at_work moved.stage going (ap (λ (c : Copying). c.stage) new_is ∙ stage))
-  file_item moved (Ended Aborted part) met short tells calls going p stands = absurd tells
-  file_item moved (Ended Killed part) met short tells calls going p stands = absurd tells
-  file_item moved (Ended NoMemory part) met short tells calls going p stands = absurd tells
-  file_item moved (Removed path) met short tells calls going p stands = absurd tells
-  file_item moved (Made path) met short tells calls going p stands = absurd tells
-  file_item moved (Set path) met short tells calls going p stands = absurd tells
-  file_item moved (Kept path) met short tells calls going p stands = absurd tells
-  file_item moved (Asked question) met short tells calls going p stands = absurd tells
-  file_item moved (Merges transfer pair names) met short tells calls going p stands = absurd tells
-  file_item moved (Moved pair) met short tells calls going p stands = absurd tells
-  file_item moved (Skipped path why) met short tells calls going p stands = absurd tells
+  file_item moved did met short tells calls going p stands = absurd tells

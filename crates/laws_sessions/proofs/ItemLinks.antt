@@ -96,13 +96,4 @@ module _ (log now : CallLog) (name : List ℕ) (l : Levels) (c : LinkCopying) (k
   link_item moved Barrier open_to (stage, dirty, new_is) calls going = absurd (not_at_work moved.stage going (ap (λ (m : LinkCopying). m.stage) new_is ∙ stage))
   link_item moved (Troubled trouble) open_to (barrier, new_is) calls going =
       subst (λ (m : LinkCopying). HasItem now name l m.part m.target) (sym new_is) (stops c.stage refl trouble.cause trouble.path calls (sym (ap (λ (m : LinkCopying). link_progress m.stage) new_is) ∙ going))
-  link_item moved (Chunk count) open_to tells calls going = absurd tells
-  link_item moved (Ended ending part) open_to tells calls going = absurd tells
-  link_item moved (Removed path) open_to tells calls going = absurd tells
-  link_item moved (Made path) open_to tells calls going = absurd tells
-  link_item moved (Set path) open_to tells calls going = absurd tells
-  link_item moved (Kept path) open_to tells calls going = absurd tells
-  link_item moved (Asked question) open_to tells calls going = absurd tells
-  link_item moved (Merges transfer pair names) open_to tells calls going = absurd tells
-  link_item moved (Moved pair) open_to tells calls going = absurd tells
-  link_item moved (Skipped path why) open_to tells calls going = absurd tells
+  link_item moved did open_to tells calls going = absurd tells

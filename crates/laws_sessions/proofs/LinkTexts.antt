@@ -121,13 +121,4 @@ module _ (log now : CallLog) (tree : IsTree (current log)) (c : LinkCopying) whe
       let stands : has_part c.stage ≡ true = sym (ap (λ (m : LinkCopying). has_part m.stage) new_is) ∙ has in
       subst (λ (m : LinkCopying). IsLinkAs (current now) m.part m.source) (sym new_is)
       (subst (λ (s : FileSystem). IsLinkAs s c.part c.source) (sym (still c.stage trouble.cause trouble.path calls stands)) (known stands))
-  text_after moved (Chunk count) tells calls known has = absurd tells
-  text_after moved (Ended ending part) tells calls known has = absurd tells
-  text_after moved (Removed path) tells calls known has = absurd tells
-  text_after moved (Made path) tells calls known has = absurd tells
-  text_after moved (Set path) tells calls known has = absurd tells
-  text_after moved (Kept path) tells calls known has = absurd tells
-  text_after moved (Asked question) tells calls known has = absurd tells
-  text_after moved (Merges transfer pair names) tells calls known has = absurd tells
-  text_after moved (Moved pair) tells calls known has = absurd tells
-  text_after moved (Skipped path why) tells calls known has = absurd tells
+  text_after moved did tells calls known has = absurd tells

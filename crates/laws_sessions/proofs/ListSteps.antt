@@ -76,20 +76,7 @@ leaves_listed dirty (suc n) old mid (last, all, none, one) apart h =
 -- a folder whose mark is set after a step counts as dirty after it
 pub left_marks : (did : Did) (c : Seen) → is_dirty c.levels.inner.copy.names ≡ true → is_left_dirty did c ≡ true
 left_marks (Made path) c marked = refl
-left_marks (Began part) c marked = marked
-left_marks (Chunk count) c marked = marked
-left_marks (Placed path) c marked = marked
-left_marks (Removed path) c marked = marked
-left_marks (Set path) c marked = marked
-left_marks (Kept path) c marked = marked
-left_marks (Asked question) c marked = marked
-left_marks (Merges transfer pair names) c marked = marked
-left_marks (Moved pair) c marked = marked
-left_marks (Skipped path cause) c marked = marked
-left_marks (Cleaned part) c marked = marked
-left_marks Barrier c marked = marked
-left_marks (Troubled trouble) c marked = marked
-left_marks (Ended ending part) c marked = marked
+left_marks did c marked = marked
 
 -- the same folders are open
 abbrev SameFolders : Seen → Seen → Type 0

@@ -199,20 +199,7 @@ module _ (told : HistoryFacts) (dirty dirty_after : List Route) (marks : Marks) 
       subst (λ o. In (Ended Finished o) GoesOn (Make w) (Make new)) (sym part_is) (ends told dirty dirty_after marks log now kept (Make w) none
       (leaves ∙ (ap (λ (x : Making). moves_dirty (makings.is_dirty w.stage) (makings.is_dirty x.stage) (folder_of w.path) dirty) new_is ∙ same_dirty (makings.is_dirty w.stage) (folder_of w.path) dirty))
       (some_log now log done))
-  making_tells w new (Ended Aborted part) knows tells done settled leaves = absurd tells
-  making_tells w new (Ended Killed part) knows tells done settled leaves = absurd tells
-  making_tells w new (Ended NoMemory part) knows tells done settled leaves = absurd tells
-  making_tells w new (Began part) knows tells done settled leaves = absurd tells
-  making_tells w new (Chunk count) knows tells done settled leaves = absurd tells
-  making_tells w new (Set path) knows tells done settled leaves = absurd tells
-  making_tells w new (Placed path) knows tells done settled leaves = absurd tells
-  making_tells w new (Removed path) knows tells done settled leaves = absurd tells
-  making_tells w new (Kept kept) knows tells done settled leaves = absurd tells
-  making_tells w new (Asked question) knows tells done settled leaves = absurd tells
-  making_tells w new (Merges transfer pair names) knows tells done settled leaves = absurd tells
-  making_tells w new (Moved pair) knows tells done settled leaves = absurd tells
-  making_tells w new (Skipped path cause) knows tells done settled leaves = absurd tells
-  making_tells w new (Cleaned part) knows tells done settled leaves = absurd tells
+  making_tells w new did knows tells done settled leaves = absurd tells
 
   pub making_winds : (w new : Making) (ending : Ending) (did : Did) (left : Option TreeError) → WorkKnows told dirty marks log (Ends ending) (Make w) → Winds ending w did new
       → MakingLeaves w did left log (Some now) → LastMakingCalls w did log (Some now) → dirty_after ≡ after_try did left (folder_of w.path) dirty
@@ -222,16 +209,4 @@ module _ (told : HistoryFacts) (dirty dirty_after : List Route) (marks : Marks) 
       (subst (λ q. Answers log (sync_of q) (sync_answer left) (Some now)) name.is answer) leaves
   making_winds w new ending (Ended how part) left (name, none) (off, how_is, part_is, new_is) answer calls leaves =
       subst (λ o. In (Ended how o) (Ends ending) (Make w) (Make new)) (sym part_is) (ends told dirty dirty_after marks log now kept (Make w) none leaves (some_log now log calls))
-  making_winds w new ending (Began part) left knows tells answer calls leaves = absurd tells
-  making_winds w new ending (Chunk count) left knows tells answer calls leaves = absurd tells
-  making_winds w new ending (Set path) left knows tells answer calls leaves = absurd tells
-  making_winds w new ending (Placed path) left knows tells answer calls leaves = absurd tells
-  making_winds w new ending (Removed path) left knows tells answer calls leaves = absurd tells
-  making_winds w new ending (Made path) left knows tells answer calls leaves = absurd tells
-  making_winds w new ending (Kept kept) left knows tells answer calls leaves = absurd tells
-  making_winds w new ending (Asked question) left knows tells answer calls leaves = absurd tells
-  making_winds w new ending (Merges transfer pair names) left knows tells answer calls leaves = absurd tells
-  making_winds w new ending (Moved pair) left knows tells answer calls leaves = absurd tells
-  making_winds w new ending (Skipped path cause) left knows tells answer calls leaves = absurd tells
-  making_winds w new ending (Cleaned part) left knows tells answer calls leaves = absurd tells
-  making_winds w new ending (Troubled trouble) left knows tells answer calls leaves = absurd tells
+  making_winds w new ending did left knows tells answer calls leaves = absurd tells

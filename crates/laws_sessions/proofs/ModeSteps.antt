@@ -174,19 +174,7 @@ module _ (told : HistoryFacts) (dirty dirty_after : List Route) (marks : Marks) 
       (comes_refused told dirty marks log now GoesOn (SetMode (record s { stage = setting.Done })) kept (has, none) (stops s cause named s.stage stop)))
   setting_tells replies s new (Ended Finished part) (has, none) (stage, part_is, new_is) done settled leaves =
       subst (λ o. In (Ended Finished o) GoesOn (SetMode s) (SetMode new)) (sym part_is) (ends told dirty dirty_after marks log now kept (SetMode s) none (leaves_same s new new_is leaves) (some_log now log done))
-  setting_tells replies s new (Ended Aborted part) knows tells done settled leaves = absurd tells
-  setting_tells replies s new (Ended Killed part) knows tells done settled leaves = absurd tells
-  setting_tells replies s new (Ended NoMemory part) knows tells done settled leaves = absurd tells
-  setting_tells replies s new (Began part) knows tells done settled leaves = absurd tells
-  setting_tells replies s new (Chunk count) knows tells done settled leaves = absurd tells
-  setting_tells replies s new (Placed path) knows tells done settled leaves = absurd tells
-  setting_tells replies s new (Removed path) knows tells done settled leaves = absurd tells
-  setting_tells replies s new (Made path) knows tells done settled leaves = absurd tells
-  setting_tells replies s new (Kept kept) knows tells done settled leaves = absurd tells
-  setting_tells replies s new (Asked question) knows tells done settled leaves = absurd tells
-  setting_tells replies s new (Merges transfer pair names) knows tells done settled leaves = absurd tells
-  setting_tells replies s new (Moved pair) knows tells done settled leaves = absurd tells
-  setting_tells replies s new (Cleaned part) knows tells done settled leaves = absurd tells
+  setting_tells replies s new did knows tells done settled leaves = absurd tells
 
   pub setting_winds : (s new : Setting) (ending : Ending) (did : Did) (left : Option TreeError) → WorkKnows told dirty marks log (Ends ending) (SetMode s) → Winds ending s did new
       → SettingLeaves s did left log (Some now) → LastSettingCalls s did log (Some now) → dirty_after ≡ after_try did left s.path dirty → In did (Ends ending) (SetMode s) (SetMode new)
@@ -194,16 +182,4 @@ module _ (told : HistoryFacts) (dirty dirty_after : List Route) (marks : Marks) 
       thing_tried s.path left (Ends ending) (SetMode new) (λ routes. (subst (λ (x : Setting). HasName x.path) (sym new_is) has, none)) tried leaves
   setting_winds s new ending (Ended how part) left (has, none) (clean, how_is, part_is, new_is) tried calls leaves =
       subst (λ o. In (Ended how o) (Ends ending) (SetMode s) (SetMode new)) (sym part_is) (ends told dirty dirty_after marks log now kept (SetMode s) none leaves (some_log now log calls))
-  setting_winds s new ending (Began part) left knows tells tried calls leaves = absurd tells
-  setting_winds s new ending (Chunk count) left knows tells tried calls leaves = absurd tells
-  setting_winds s new ending (Set path) left knows tells tried calls leaves = absurd tells
-  setting_winds s new ending (Placed path) left knows tells tried calls leaves = absurd tells
-  setting_winds s new ending (Removed path) left knows tells tried calls leaves = absurd tells
-  setting_winds s new ending (Made path) left knows tells tried calls leaves = absurd tells
-  setting_winds s new ending (Kept kept) left knows tells tried calls leaves = absurd tells
-  setting_winds s new ending (Asked question) left knows tells tried calls leaves = absurd tells
-  setting_winds s new ending (Merges transfer pair names) left knows tells tried calls leaves = absurd tells
-  setting_winds s new ending (Moved pair) left knows tells tried calls leaves = absurd tells
-  setting_winds s new ending (Skipped path cause) left knows tells tried calls leaves = absurd tells
-  setting_winds s new ending (Cleaned part) left knows tells tried calls leaves = absurd tells
-  setting_winds s new ending (Troubled trouble) left knows tells tried calls leaves = absurd tells
+  setting_winds s new ending did left knows tells tried calls leaves = absurd tells

@@ -48,20 +48,7 @@ unsaid_mode said path sure unnamed dirty marks log kept = false_from_ne_true _ (
 -- a report that doesn't name a path sets no mode of it
 unset : (did : Did) (before : Route → Bool) (path : Route) → before path ≡ false → names did path ≡ false → modes_by did before path ≡ false
 unset (Set changed) before path sure unnamed = ap (λ b. b || same_path path changed) sure ∙ unnamed
-unset (Began made) before path sure unnamed = sure
-unset (Chunk count) before path sure unnamed = sure
-unset (Placed target) before path sure unnamed = sure
-unset (Removed gone) before path sure unnamed = sure
-unset (Made folder) before path sure unnamed = sure
-unset (Kept kept) before path sure unnamed = sure
-unset (Asked question) before path sure unnamed = sure
-unset (Merges transfer pair names) before path sure unnamed = sure
-unset (Moved pair) before path sure unnamed = sure
-unset (Skipped file cause) before path sure unnamed = sure
-unset (Cleaned gone) before path sure unnamed = sure
-unset Barrier before path sure unnamed = sure
-unset (Troubled trouble) before path sure unnamed = sure
-unset (Ended ending left) before path sure unnamed = sure
+unset did before path sure unnamed = sure
 
 module _ (opening : CallLog) (older : List Entry) (was : Stand) (before : CallLog) (r : IsReached opening older was before) (path : Route) (sure : node_waits before path ≡ false)
     (other : Among (named_parts older) path → ⊥) where

@@ -109,17 +109,7 @@ module _ (name : List ℕ) (up : Route) (log now : CallLog) (files : IsOfFiles l
         kept moved (subst (λ (x : CallLog). WaitsIf name up x E) (sym d.is) (quiet_waits name up E log _ known.tree (λ n g m. refl) h))
     file_names moved (Troubled trouble) (barrier, new_is) calls = kept moved (stops f.stage refl trouble.cause trouble.path calls)
     file_names moved (Ended Finished part) tells calls = kept moved (same (some_log now log calls))
-    file_names moved (Ended Aborted part) tells calls = absurd tells
-    file_names moved (Ended Killed part) tells calls = absurd tells
-    file_names moved (Ended NoMemory part) tells calls = absurd tells
-    file_names moved (Removed path) tells calls = absurd tells
-    file_names moved (Made path) tells calls = absurd tells
-    file_names moved (Set path) tells calls = absurd tells
-    file_names moved (Kept path) tells calls = absurd tells
-    file_names moved (Asked question) tells calls = absurd tells
-    file_names moved (Merges transfer pair names) tells calls = absurd tells
-    file_names moved (Moved pair) tells calls = absurd tells
-    file_names moved (Skipped path why) tells calls = absurd tells
+    file_names moved did tells calls = absurd tells
 
   -- a link
   module _ (c : LinkCopying) (known : LinkKnown log top l c) where
@@ -171,13 +161,4 @@ module _ (name : List ℕ) (up : Route) (log now : CallLog) (files : IsOfFiles l
         let d = done_call log (SyncFolder (folder_of c.target)) now (row_done log now (SyncFolder (folder_of c.target)) (rows_at link_stage.Decided stage rows)) in
         link_kept moved (subst (λ (x : CallLog). WaitsIf name up x E) (sym d.is) (quiet_waits name up E log _ known.tree (λ n g m. refl) h))
     link_names moved (Troubled trouble) tells calls = link_kept moved (link_stops c.stage trouble.cause trouble.path calls)
-    link_names moved (Chunk count) tells calls = absurd tells
-    link_names moved (Ended ending part) tells calls = absurd tells
-    link_names moved (Removed path) tells calls = absurd tells
-    link_names moved (Made path) tells calls = absurd tells
-    link_names moved (Set path) tells calls = absurd tells
-    link_names moved (Kept path) tells calls = absurd tells
-    link_names moved (Asked question) tells calls = absurd tells
-    link_names moved (Merges transfer pair names) tells calls = absurd tells
-    link_names moved (Moved pair) tells calls = absurd tells
-    link_names moved (Skipped path why) tells calls = absurd tells
+    link_names moved did tells calls = absurd tells

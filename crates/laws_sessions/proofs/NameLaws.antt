@@ -67,17 +67,7 @@ file_under f moved (Cleaned part) (follows, stage, new_is) going = absurd (file_
 file_under f moved Barrier (stage, dirty, new_is) going = inr (sym (ap (λ (x : Copying). progress x.stage) new_is) ∙ going)
 file_under f moved (Troubled trouble) (barrier, new_is) going = inr (sym (ap (λ (x : Copying). progress x.stage) new_is) ∙ going)
 file_under f moved (Ended Finished part) (stage, clean, none, new_is) going = inr (sym (ap (λ (x : Copying). progress x.stage) new_is) ∙ going)
-file_under f moved (Ended Aborted part) tells going = absurd tells
-file_under f moved (Ended Killed part) tells going = absurd tells
-file_under f moved (Ended NoMemory part) tells going = absurd tells
-file_under f moved (Removed path) tells going = absurd tells
-file_under f moved (Made path) tells going = absurd tells
-file_under f moved (Set path) tells going = absurd tells
-file_under f moved (Kept path) tells going = absurd tells
-file_under f moved (Asked question) tells going = absurd tells
-file_under f moved (Merges transfer pair names) tells going = absurd tells
-file_under f moved (Moved pair) tells going = absurd tells
-file_under f moved (Skipped path why) tells going = absurd tells
+file_under f moved did tells going = absurd tells
 
 link_under : (l moved : LinkCopying) (did : Did) → link.Tells l did moved → link_progress moved.stage ≡ UnderWay → (link.is_dirty moved.folder ≡ true) ⊎ (link_progress l.stage ≡ UnderWay)
 link_under l moved (Began part) (stage, part_is, new_is) going = inl (ap (λ (x : LinkCopying). link.is_dirty x.folder) new_is)
@@ -85,16 +75,7 @@ link_under l moved (Placed path) (stage, path_is, new_is) going = inl (ap (λ (x
 link_under l moved (Cleaned part) (follows, stage, part_is, new_is) going = inl (ap (λ (x : LinkCopying). link.is_dirty x.folder) new_is)
 link_under l moved Barrier (stage, dirty, new_is) going = inr (sym (ap (λ (x : LinkCopying). link_progress x.stage) new_is) ∙ going)
 link_under l moved (Troubled trouble) (barrier, new_is) going = inr (sym (ap (λ (x : LinkCopying). link_progress x.stage) new_is) ∙ going)
-link_under l moved (Chunk count) tells going = absurd tells
-link_under l moved (Ended ending part) tells going = absurd tells
-link_under l moved (Removed path) tells going = absurd tells
-link_under l moved (Made path) tells going = absurd tells
-link_under l moved (Set path) tells going = absurd tells
-link_under l moved (Kept path) tells going = absurd tells
-link_under l moved (Asked question) tells going = absurd tells
-link_under l moved (Merges transfer pair names) tells going = absurd tells
-link_under l moved (Moved pair) tells going = absurd tells
-link_under l moved (Skipped path why) tells going = absurd tells
+link_under l moved did tells going = absurd tells
 
 module _ (unclaimed : Route → Type 0) (replies : Replies) (old new : Seen) (did : Did) (before after : Option CallLog) where
   file_marked : (f : Copying) → (progress f.stage ≡ UnderWay → is_dirty old.levels.inner.copy.names ≡ true) → FileMoves unclaimed f old new did before after → IsMarked new

@@ -161,20 +161,7 @@ module _ (told : HistoryFacts) (dirty dirty_after : List Route) (marks : Marks) 
 -- what is reported names a part only where one is begun
 begun_as : (did : Did) (path : Route) → begins_part did path ≡ true → did ≡ Began path
 begun_as (Began part) path h = ap Began (sym (same_path-true path part h))
-begun_as (Chunk count) path h = absurd (false≢true h)
-begun_as (Set changed) path h = absurd (false≢true h)
-begun_as (Placed placed) path h = absurd (false≢true h)
-begun_as (Removed removed) path h = absurd (false≢true h)
-begun_as (Made made) path h = absurd (false≢true h)
-begun_as (Kept kept) path h = absurd (false≢true h)
-begun_as (Asked question) path h = absurd (false≢true h)
-begun_as (Merges transfer pair names) path h = absurd (false≢true h)
-begun_as (Moved pair) path h = absurd (false≢true h)
-begun_as (Skipped skipped why) path h = absurd (false≢true h)
-begun_as (Cleaned gone) path h = absurd (false≢true h)
-begun_as Barrier path h = absurd (false≢true h)
-begun_as (Troubled trouble) path h = absurd (false≢true h)
-begun_as (Ended ending part) path h = absurd (false≢true h)
+begun_as did path h = absurd (false≢true h)
 
 -- the parts of the live job
 abbrev pub AreOwn : List Entry → List Running → Type 0

@@ -119,18 +119,9 @@ known_by : (did : Did) (folder : Route) (before : Route → Bool) (p : Route) �
 known_by (Began part) folder before p unnamed h = or_right _ _ h
 known_by (Removed path) folder before p unnamed h = and_from (same_path p folder || before p) (not (same_path p path)) (or_right _ _ h) (ap not unnamed)
 known_by (Made path) folder before p unnamed h = or_right _ _ h
-known_by (Chunk count) folder before p unnamed h = h
 known_by (Set path) folder before p unnamed h = or_right _ _ h
-known_by (Placed path) folder before p unnamed h = h
-known_by (Kept kept) folder before p unnamed h = h
-known_by (Asked question) folder before p unnamed h = h
-known_by (Merges transfer pair names) folder before p unnamed h = h
 known_by (Moved pair) folder before p unnamed h = or_left _ _ (and_from (before p) _ h (ap not unnamed))
-known_by (Skipped path cause) folder before p unnamed h = h
-known_by (Cleaned part) folder before p unnamed h = h
-known_by Barrier folder before p unnamed h = h
-known_by (Troubled trouble) folder before p unnamed h = h
-known_by (Ended ending part) folder before p unnamed h = h
+known_by did folder before p unnamed h = h
 
 known_still : (did : Did) (item : Option ItemOfJob) (before : Route → Bool) (p : Route) → names did p ≡ false → before p ≡ true → option_map_or (λ i. folders_by did (folder_changed i) before) item before p ≡ true
 known_still did None before p unnamed h = h

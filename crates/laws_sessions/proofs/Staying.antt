@@ -93,17 +93,10 @@ unnamed_sure (Placed target) part before path sure unnamed other =
     untold_facts (before path || same_path path target) (option_map_or (same_path path) part false) (untold_facts (before path) (same_path path target) sure unnamed) (no_route part path other)
 unnamed_sure (Removed file) part before path sure unnamed other = untold_facts (before path) (same_path path file) sure unnamed
 unnamed_sure (Cleaned gone) part before path sure unnamed other = untold_facts (before path) (same_path path gone) sure unnamed
-unnamed_sure (Chunk count) part before path sure unnamed other = sure
 unnamed_sure (Set changed) part before path sure unnamed other = untold_facts (before path) (same_path path changed) sure unnamed
 unnamed_sure (Made folder) part before path sure unnamed other = untold_facts (before path) (same_path path folder) sure unnamed
-unnamed_sure (Kept kept) part before path sure unnamed other = sure
-unnamed_sure (Asked question) part before path sure unnamed other = sure
-unnamed_sure (Merges transfer pair names) part before path sure unnamed other = sure
 unnamed_sure (Moved pair) part before path sure unnamed other = untold_facts (before path) (same_path path pair.source || same_path path pair.target) sure (off_ends pair path unnamed)
-unnamed_sure (Skipped file cause) part before path sure unnamed other = sure
-unnamed_sure Barrier part before path sure unnamed other = sure
-unnamed_sure (Troubled trouble) part before path sure unnamed other = sure
-unnamed_sure (Ended ending left) part before path sure unnamed other = sure
+unnamed_sure did part before path sure unnamed other = sure
 
 -- from one log to another nothing of a kind waits, before each call and at the end
 pub record IsStill (waits : CallLog → Bool) (before now : CallLog) : Type 0 where
@@ -183,18 +176,7 @@ part_before (Began made) part path unnamed is =
     let same : made ≡ path = cc in absurd (both_ways _ unnamed (subst (λ q. same_path path q ≡ true) (sym same) (same_path-self path)))
 part_before (Placed target) part path unnamed is = absurd (let f : ⊥ = cc in f)
 part_before (Cleaned gone) part path unnamed is = absurd (let f : ⊥ = cc in f)
-part_before (Chunk count) part path unnamed is = is
-part_before (Set changed) part path unnamed is = is
-part_before (Removed file) part path unnamed is = is
-part_before (Made made) part path unnamed is = is
-part_before (Kept kept) part path unnamed is = is
-part_before (Asked question) part path unnamed is = is
-part_before (Merges transfer pair names) part path unnamed is = is
-part_before (Moved pair) part path unnamed is = is
-part_before (Skipped file cause) part path unnamed is = is
-part_before Barrier part path unnamed is = is
-part_before (Troubled trouble) part path unnamed is = is
-part_before (Ended ending left) part path unnamed is = is
+part_before did part path unnamed is = is
 
 module _ (path : Route) where
   stepped_part : (b : Bool) (job : LiveJob) (did : Did) (jobs after : List LiveJob) → names did path ≡ false → (IsLivePart after path → IsLivePart jobs path)

@@ -66,17 +66,7 @@ part_after (Began part) before = Some part
 part_after (Placed path) before = None
 part_after (Cleaned part) before = None
 part_after (Ended ending part) before = None
-part_after (Chunk count) before = before
-part_after (Set path) before = before
-part_after (Removed path) before = before
-part_after (Made made) before = before
-part_after (Kept kept) before = before
-part_after (Asked question) before = before
-part_after (Merges transfer pair names) before = before
-part_after (Moved pair) before = before
-part_after (Skipped path cause) before = before
-part_after Barrier before = before
-part_after (Troubled trouble) before = before
+part_after did before = before
 
 -- of which paths a change may wait then
 abbrev pub doubt_by : Did → Option Route → (Route → Bool) → Route → Bool
@@ -84,17 +74,10 @@ doubt_by (Began made) part before = λ p. before p || same_path p made
 doubt_by (Placed path) part before = λ p. (before p || same_path p path) || option_map_or (same_path p) part false
 doubt_by (Removed path) part before = λ p. before p || same_path p path
 doubt_by (Cleaned gone) part before = λ p. before p || same_path p gone
-doubt_by (Chunk count) part before = before
 doubt_by (Set path) part before = λ p. before p || same_path p path
 doubt_by (Made path) part before = λ p. before p || same_path p path
-doubt_by (Kept kept) part before = before
-doubt_by (Asked question) part before = before
-doubt_by (Merges transfer pair names) part before = before
 doubt_by (Moved pair) part before = λ p. before p || (same_path p pair.source || same_path p pair.target)
-doubt_by (Skipped path cause) part before = before
-doubt_by Barrier part before = before
-doubt_by (Troubled trouble) part before = before
-doubt_by (Ended ending left) part before = before
+doubt_by did part before = before
 
 -- the folder of a job's item is on the disk from its first change on, until it is removed or moved, and so is that of each part or thing which a report names; of a
 -- move both
@@ -102,36 +85,14 @@ abbrev pub folders_by : Did → Route → (Route → Bool) → Route → Bool
 folders_by (Began made) folder before = λ p. (same_path p folder || same_path p (folder_of made)) || before p
 folders_by (Removed path) folder before = λ p. (same_path p folder || before p) && not (same_path p path)
 folders_by (Made path) folder before = λ p. (same_path p folder || same_path p (folder_of path)) || before p
-folders_by (Placed path) folder before = before
-folders_by (Cleaned gone) folder before = before
-folders_by (Chunk count) folder before = before
 folders_by (Set path) folder before = λ p. (same_path p folder || same_path p (folder_of path)) || before p
-folders_by (Kept kept) folder before = before
-folders_by (Asked question) folder before = before
-folders_by (Merges transfer pair names) folder before = before
 folders_by (Moved pair) folder before = λ p. (before p && not (is_of_move pair p)) || (same_path p (folder_of pair.source) || same_path p (folder_of pair.target))
-folders_by (Skipped path cause) folder before = before
-folders_by Barrier folder before = before
-folders_by (Troubled trouble) folder before = before
-folders_by (Ended ending left) folder before = before
+folders_by did folder before = before
 
 -- of which paths a mode may wait then
 abbrev pub modes_by : Did → (Route → Bool) → Route → Bool
 modes_by (Set path) before = λ p. before p || same_path p path
-modes_by (Began made) before = before
-modes_by (Chunk count) before = before
-modes_by (Placed path) before = before
-modes_by (Removed path) before = before
-modes_by (Made path) before = before
-modes_by (Kept kept) before = before
-modes_by (Asked question) before = before
-modes_by (Merges transfer pair names) before = before
-modes_by (Moved pair) before = before
-modes_by (Skipped path cause) before = before
-modes_by (Cleaned gone) before = before
-modes_by Barrier before = before
-modes_by (Troubled trouble) before = before
-modes_by (Ended ending left) before = before
+modes_by did before = before
 
 -- in the folders of a job's first change no mode waits from then on, until one is set there, and no renaming for them and others, until something is moved from or to them
 abbrev pub calm_by : Did → ItemOfJob → (Route → Bool) → Route → Bool
@@ -139,17 +100,8 @@ calm_by (Began made) item before = λ p. may_change item p || before p
 calm_by (Removed path) item before = λ p. may_change item p || before p
 calm_by (Made path) item before = λ p. may_change item p || before p
 calm_by (Set path) item before = λ p. before p && not (same_path p (folder_of path))
-calm_by (Placed path) item before = before
-calm_by (Cleaned gone) item before = before
-calm_by (Chunk count) item before = before
-calm_by (Kept kept) item before = before
-calm_by (Asked question) item before = before
-calm_by (Merges transfer pair names) item before = before
 calm_by (Moved pair) item before = λ p. before p && not (is_of_move pair p || (same_path p (folder_of pair.source) || same_path p (folder_of pair.target)))
-calm_by (Skipped path cause) item before = before
-calm_by Barrier item before = before
-calm_by (Troubled trouble) item before = before
-calm_by (Ended ending left) item before = before
+calm_by did item before = before
 
 abbrev pub said_after : CallLog → Did → Work → HistoryFacts → HistoryFacts
 said_after now did work told = record {

@@ -113,14 +113,11 @@ module _ (log now : CallLog) (free : Route → Bool) (replies : Replies) (mid : 
   file_idle (Ended Aborted part) new still t = let w = taken_moves (IsPartPlace free mid) replies mid new (Ended Aborted part) (Some log) (Some now) t in absurd w.tells
   file_idle (Ended Killed part) new still t = let w = taken_moves (IsPartPlace free mid) replies mid new (Ended Killed part) (Some log) (Some now) t in absurd w.tells
   file_idle (Ended NoMemory part) new still t = let w = taken_moves (IsPartPlace free mid) replies mid new (Ended NoMemory part) (Some log) (Some now) t in absurd w.tells
-  file_idle (Removed path) new still t = absurd (true≢false still)
-  file_idle (Made path) new still t = absurd (true≢false still)
-  file_idle (Set path) new still t = absurd (true≢false still)
-  file_idle (Moved pair) new still t = absurd (true≢false still)
   file_idle (Kept path) new still t = let w = taken_moves (IsPartPlace free mid) replies mid new (Kept path) (Some log) (Some now) t in absurd w.tells
   file_idle (Asked question) new still t = let w = taken_moves (IsPartPlace free mid) replies mid new (Asked question) (Some log) (Some now) t in absurd w.tells
   file_idle (Merges transfer pair names) new still t = let w = taken_moves (IsPartPlace free mid) replies mid new (Merges transfer pair names) (Some log) (Some now) t in absurd w.tells
   file_idle (Skipped path cause) new still t = let w = taken_moves (IsPartPlace free mid) replies mid new (Skipped path cause) (Some log) (Some now) t in absurd w.tells
+  file_idle did new still t = absurd (true≢false still)
 
   -- and so does a link
   link_stops : (did : Did) (new : Seen) (trouble : Trouble) (t : TakesLink (IsPartPlace free mid) replies mid new did (Some log) (Some now)) (moved : LinkCopying) → moved ≡ link_begun t.pair t.part
@@ -140,16 +137,11 @@ module _ (log now : CallLog) (free : Route → Bool) (replies : Replies) (mid : 
   link_idle (Placed path) new still t = let w = t.works in let tells = w.tells in absurd (let e = tells.0 in let f : ⊥ = cc in f)
   link_idle (Cleaned part) new still t = let w = t.works in let tells = w.tells in absurd (let e = tells.1 in let f : ⊥ = cc in f)
   link_idle Barrier new still t = let w = t.works in let tells = w.tells in absurd (let e = tells.0 in let f : ⊥ = cc in f)
-  link_idle (Chunk count) new still t = let w = t.works in absurd w.tells
-  link_idle (Ended ending part) new still t = let w = t.works in absurd w.tells
   link_idle (Removed path) new still t = absurd (true≢false still)
   link_idle (Made path) new still t = absurd (true≢false still)
   link_idle (Set path) new still t = absurd (true≢false still)
   link_idle (Moved pair) new still t = absurd (true≢false still)
-  link_idle (Kept path) new still t = let w = t.works in absurd w.tells
-  link_idle (Asked question) new still t = let w = t.works in absurd w.tells
-  link_idle (Merges transfer pair names) new still t = let w = t.works in absurd w.tells
-  link_idle (Skipped path cause) new still t = let w = t.works in absurd w.tells
+  link_idle did new still t = let w = t.works in absurd w.tells
 
   next_idle : (did : Did) (new : Seen) → begins_change did ≡ false → TakesNext (IsPartPlace free mid) replies mid new did (Some log) (Some now) → Idle new
   next_idle did new still (inl s) = (inl (some_log now log s.same), ap (λ (x : Seen). x.item) s.stands ∙ none)

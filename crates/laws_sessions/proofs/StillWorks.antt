@@ -58,32 +58,12 @@ module _ (log now : CallLog) where
   deletion_calm (Troubled trouble) still (inr (e, is, refused)) = refused_removal e refused
   deletion_calm Barrier still (folder, done) = calm_sync log now folder done
   deletion_calm (Ended ending part) still calls = inl (some_log now log calls)
-  deletion_calm (Began part) still calls = absurd calls
-  deletion_calm (Chunk count) still calls = absurd calls
-  deletion_calm (Set path) still calls = absurd calls
-  deletion_calm (Placed path) still calls = absurd calls
-  deletion_calm (Made path) still calls = absurd calls
-  deletion_calm (Cleaned part) still calls = absurd calls
-  deletion_calm (Asked question) still calls = absurd calls
-  deletion_calm (Merges transfer pair names) still calls = absurd calls
-  deletion_calm (Moved pair) still calls = absurd calls
+  deletion_calm did still calls = absurd calls
 
   pub deletion_last : (did : Did) → LastCalls did log (Some now) → Calm
   deletion_last Barrier (folder, answer, done) = calm_try log now folder answer done
   deletion_last (Ended ending part) calls = inl (some_log now log calls)
-  deletion_last (Began part) calls = absurd calls
-  deletion_last (Chunk count) calls = absurd calls
-  deletion_last (Set path) calls = absurd calls
-  deletion_last (Placed path) calls = absurd calls
-  deletion_last (Removed path) calls = absurd calls
-  deletion_last (Made path) calls = absurd calls
-  deletion_last (Kept path) calls = absurd calls
-  deletion_last (Skipped path cause) calls = absurd calls
-  deletion_last (Cleaned part) calls = absurd calls
-  deletion_last (Asked question) calls = absurd calls
-  deletion_last (Merges transfer pair names) calls = absurd calls
-  deletion_last (Moved pair) calls = absurd calls
-  deletion_last (Troubled trouble) calls = absurd calls
+  deletion_last did calls = absurd calls
 
   -- the making of a thing
   no_write : (new : NewThing) (path : Route) (s : FileSystem) (left : List ℕ) → torn_write s (making_call new path) left ≡ change.Nothing
@@ -109,34 +89,12 @@ module _ (log now : CallLog) where
   making_calm m Barrier still calls = sync_calm m.path calls
   making_calm m (Troubled trouble) still (e, is, stops) = making_stops m.thing m.stage m.path e stops
   making_calm m (Ended ending part) still calls = inl (some_log now log calls)
-  making_calm m (Began part) still calls = absurd calls
-  making_calm m (Chunk count) still calls = absurd calls
-  making_calm m (Set path) still calls = absurd calls
-  making_calm m (Placed path) still calls = absurd calls
-  making_calm m (Removed path) still calls = absurd calls
-  making_calm m (Kept kept) still calls = absurd calls
-  making_calm m (Asked question) still calls = absurd calls
-  making_calm m (Merges transfer pair names) still calls = absurd calls
-  making_calm m (Moved pair) still calls = absurd calls
-  making_calm m (Skipped path cause) still calls = absurd calls
-  making_calm m (Cleaned part) still calls = absurd calls
+  making_calm m did still calls = absurd calls
 
   pub making_last : (m : Making) (did : Did) → LastMakingCalls m did log (Some now) → Calm
   making_last m Barrier (answer, done) = sync_tried m.path answer done
   making_last m (Ended ending part) calls = inl (some_log now log calls)
-  making_last m (Began part) calls = absurd calls
-  making_last m (Chunk count) calls = absurd calls
-  making_last m (Set path) calls = absurd calls
-  making_last m (Placed path) calls = absurd calls
-  making_last m (Removed path) calls = absurd calls
-  making_last m (Made path) calls = absurd calls
-  making_last m (Kept kept) calls = absurd calls
-  making_last m (Asked question) calls = absurd calls
-  making_last m (Merges transfer pair names) calls = absurd calls
-  making_last m (Moved pair) calls = absurd calls
-  making_last m (Skipped path cause) calls = absurd calls
-  making_last m (Cleaned part) calls = absurd calls
-  making_last m (Troubled trouble) calls = absurd calls
+  making_last m did calls = absurd calls
 
   -- the move of a thing
   moving_stops : (m : Moving) (replies : Replies) (stage : MovingStage) (cause : Cause) (path : Option Route) → Stops m replies stage cause path log (Some now) → Calm
@@ -155,31 +113,13 @@ module _ (log now : CallLog) where
   moving_calm replies m (Asked question) still (decided, same) = inl (some_log now log same)
   moving_calm replies m (Troubled trouble) still stops = moving_stops m replies m.stage trouble.cause trouble.path stops
   moving_calm replies m (Ended ending part) still calls = inl (some_log now log calls)
-  moving_calm replies m (Began part) still calls = absurd calls
-  moving_calm replies m (Chunk count) still calls = absurd calls
-  moving_calm replies m (Set path) still calls = absurd calls
-  moving_calm replies m (Placed path) still calls = absurd calls
-  moving_calm replies m (Removed path) still calls = absurd calls
-  moving_calm replies m (Made path) still calls = absurd calls
   moving_calm replies m (Merges transfer pair names) still (merged, same) = inl (some_log now log same)
-  moving_calm replies m (Cleaned part) still calls = absurd calls
+  moving_calm replies m did still calls = absurd calls
 
   pub moving_last : (m : Moving) (did : Did) → LastMovingCalls m did log (Some now) → Calm
   moving_last m Barrier (answer, done) = calm_try log now (owed_folder m) answer done
   moving_last m (Ended ending part) calls = inl (some_log now log calls)
-  moving_last m (Began part) calls = absurd calls
-  moving_last m (Chunk count) calls = absurd calls
-  moving_last m (Set path) calls = absurd calls
-  moving_last m (Placed path) calls = absurd calls
-  moving_last m (Removed path) calls = absurd calls
-  moving_last m (Made path) calls = absurd calls
-  moving_last m (Kept path) calls = absurd calls
-  moving_last m (Asked question) calls = absurd calls
-  moving_last m (Merges transfer pair names) calls = absurd calls
-  moving_last m (Moved pair) calls = absurd calls
-  moving_last m (Skipped path cause) calls = absurd calls
-  moving_last m (Cleaned part) calls = absurd calls
-  moving_last m (Troubled trouble) calls = absurd calls
+  moving_last m did calls = absurd calls
 
   -- the setting of a mode
   setting_stops : (s : Setting) (stage : SettingStage) (cause : Cause) (named : Option Route) → SettingStops s stage cause named log (Some now) → Calm
@@ -192,34 +132,13 @@ module _ (log now : CallLog) where
   setting_calm s Barrier still calls = calm_row log now s.path calls
   setting_calm s (Troubled trouble) still stops = setting_stops s s.stage trouble.cause trouble.path stops
   setting_calm s (Ended ending part) still calls = inl (some_log now log calls)
-  setting_calm s (Began part) still calls = absurd calls
-  setting_calm s (Chunk count) still calls = absurd calls
-  setting_calm s (Placed path) still calls = absurd calls
-  setting_calm s (Removed path) still calls = absurd calls
-  setting_calm s (Made path) still calls = absurd calls
-  setting_calm s (Kept path) still calls = absurd calls
-  setting_calm s (Asked question) still calls = absurd calls
-  setting_calm s (Merges transfer pair names) still calls = absurd calls
-  setting_calm s (Moved pair) still calls = absurd calls
   setting_calm s (Skipped path cause) still (named, stops) = setting_stops s s.stage cause named stops
-  setting_calm s (Cleaned part) still calls = absurd calls
+  setting_calm s did still calls = absurd calls
 
   pub setting_last : (s : Setting) (did : Did) → LastSettingCalls s did log (Some now) → Calm
   setting_last s Barrier (refusal, tried) = calm_tried log now s.path refusal tried
   setting_last s (Ended ending part) calls = inl (some_log now log calls)
-  setting_last s (Began part) calls = absurd calls
-  setting_last s (Chunk count) calls = absurd calls
-  setting_last s (Set path) calls = absurd calls
-  setting_last s (Placed path) calls = absurd calls
-  setting_last s (Removed path) calls = absurd calls
-  setting_last s (Made path) calls = absurd calls
-  setting_last s (Kept path) calls = absurd calls
-  setting_last s (Asked question) calls = absurd calls
-  setting_last s (Merges transfer pair names) calls = absurd calls
-  setting_last s (Moved pair) calls = absurd calls
-  setting_last s (Skipped path cause) calls = absurd calls
-  setting_last s (Cleaned part) calls = absurd calls
-  setting_last s (Troubled trouble) calls = absurd calls
+  setting_last s did calls = absurd calls
 
   -- the removal of an emptied folder
   removal_stops : (r : Removing) (stage : RemovalStage) (cause : Cause) (named : Option Route) → RemovalStops r stage cause named log (Some now) → Calm

@@ -48,37 +48,13 @@ told_unnamed replies s new (Set thing) path t none = absurd (none refl)
 told_unnamed replies s new Barrier path t none = refl
 told_unnamed replies s new (Troubled trouble) path t none = refl
 told_unnamed replies s new (Ended Finished part) path (is_done, part_is, new_is) none = ap (λ o. option_map_or (same_path path) o false) part_is
-told_unnamed replies s new (Ended Aborted part) path t none = absurd t
-told_unnamed replies s new (Ended Killed part) path t none = absurd t
-told_unnamed replies s new (Ended NoMemory part) path t none = absurd t
-told_unnamed replies s new (Began part) path t none = absurd t
-told_unnamed replies s new (Chunk count) path t none = absurd t
-told_unnamed replies s new (Made made) path t none = absurd t
-told_unnamed replies s new (Placed target) path t none = absurd t
-told_unnamed replies s new (Removed gone) path t none = absurd t
-told_unnamed replies s new (Kept kept) path t none = absurd t
-told_unnamed replies s new (Asked question) path t none = absurd t
-told_unnamed replies s new (Merges transfer pair within) path t none = absurd t
-told_unnamed replies s new (Moved pair) path t none = absurd t
 told_unnamed replies s new (Skipped skipped why) path t none = refl
-told_unnamed replies s new (Cleaned part) path t none = absurd t
+told_unnamed replies s new did path t none = absurd t
 
 wound_unnamed : (ending : Ending) (s new : Setting) (did : Did) (path : Route) → modes.Winds ending s did new → names did path ≡ false
 wound_unnamed ending s new Barrier path t = refl
 wound_unnamed ending s new (Ended how part) path (clean, how_is, part_is, new_is) = ap (λ o. option_map_or (same_path path) o false) part_is
-wound_unnamed ending s new (Began part) path t = absurd t
-wound_unnamed ending s new (Chunk count) path t = absurd t
-wound_unnamed ending s new (Set thing) path t = absurd t
-wound_unnamed ending s new (Placed target) path t = absurd t
-wound_unnamed ending s new (Made made) path t = absurd t
-wound_unnamed ending s new (Removed gone) path t = absurd t
-wound_unnamed ending s new (Kept kept) path t = absurd t
-wound_unnamed ending s new (Asked question) path t = absurd t
-wound_unnamed ending s new (Merges transfer pair within) path t = absurd t
-wound_unnamed ending s new (Moved pair) path t = absurd t
-wound_unnamed ending s new (Skipped skipped why) path t = absurd t
-wound_unnamed ending s new (Cleaned part) path t = absurd t
-wound_unnamed ending s new (Troubled trouble) path t = absurd t
+wound_unnamed ending s new did path t = absurd t
 
 work_unnamed : (replies : Replies) (s : Setting) (work : Work) (did : Did) (path : Route) → WorkTells replies (SetMode s) did work → (begins_change did ≡ true → ⊥) → names did path ≡ false
 work_unnamed replies s (SetMode new) did path t none = told_unnamed replies s new did path t none

@@ -50,18 +50,9 @@ making_dirty : (m new : Making) (did : Did) → makings.Tells m did new → begi
 making_dirty m new (Made path) (stage, path_is, new_is) h = ap (λ (x : Making). makings.is_dirty x.stage) new_is
 making_dirty m new (Began part) t h = absurd t
 making_dirty m new (Removed path) t h = absurd t
-making_dirty m new (Chunk count) t h = absurd (false≢true h)
 making_dirty m new (Set path) t h = absurd t
-making_dirty m new (Placed path) t h = absurd (false≢true h)
-making_dirty m new (Kept kept) t h = absurd (false≢true h)
-making_dirty m new (Asked question) t h = absurd (false≢true h)
-making_dirty m new (Merges transfer pair names) t h = absurd (false≢true h)
 making_dirty m new (Moved pair) t h = absurd t
-making_dirty m new (Skipped path why) t h = absurd (false≢true h)
-making_dirty m new (Cleaned part) t h = absurd (false≢true h)
-making_dirty m new Barrier t h = absurd (false≢true h)
-making_dirty m new (Troubled trouble) t h = absurd (false≢true h)
-making_dirty m new (Ended ending part) t h = absurd (false≢true h)
+making_dirty m new did t h = absurd (false≢true h)
 
 -- so is a mode that is given
 setting_dirty : (replies : Replies) (s new : Setting) (did : Did) → settings.Tells replies s did new → begins_change did ≡ true → settings.is_dirty new.stage ≡ true
@@ -69,17 +60,8 @@ setting_dirty replies s new (Set path) (stage, path_is, new_is) h = ap (λ (x : 
 setting_dirty replies s new (Began part) t h = absurd t
 setting_dirty replies s new (Removed path) t h = absurd t
 setting_dirty replies s new (Made path) t h = absurd t
-setting_dirty replies s new (Chunk count) t h = absurd (false≢true h)
-setting_dirty replies s new (Placed path) t h = absurd (false≢true h)
-setting_dirty replies s new (Kept kept) t h = absurd (false≢true h)
-setting_dirty replies s new (Asked question) t h = absurd (false≢true h)
-setting_dirty replies s new (Merges transfer pair names) t h = absurd (false≢true h)
 setting_dirty replies s new (Moved pair) t h = absurd t
-setting_dirty replies s new (Skipped path why) t h = absurd (false≢true h)
-setting_dirty replies s new (Cleaned part) t h = absurd (false≢true h)
-setting_dirty replies s new Barrier t h = absurd (false≢true h)
-setting_dirty replies s new (Troubled trouble) t h = absurd (false≢true h)
-setting_dirty replies s new (Ended ending part) t h = absurd (false≢true h)
+setting_dirty replies s new did t h = absurd (false≢true h)
 
 -- and the removal of an emptied folder
 removal_dirty : (replies : Replies) (r new : Removing) (did : Did) → removals.Tells replies r did new → begins_change did ≡ true → removals.is_dirty new.stage ≡ true
@@ -88,16 +70,7 @@ removal_dirty replies r new (Began part) t h = absurd t
 removal_dirty replies r new (Made path) t h = absurd t
 removal_dirty replies r new (Set path) t h = absurd t
 removal_dirty replies r new (Moved pair) t h = absurd t
-removal_dirty replies r new (Chunk count) t h = absurd (false≢true h)
-removal_dirty replies r new (Placed path) t h = absurd (false≢true h)
-removal_dirty replies r new (Kept kept) t h = absurd (false≢true h)
-removal_dirty replies r new (Asked question) t h = absurd (false≢true h)
-removal_dirty replies r new (Merges transfer pair names) t h = absurd (false≢true h)
-removal_dirty replies r new (Skipped path why) t h = absurd (false≢true h)
-removal_dirty replies r new (Cleaned part) t h = absurd (false≢true h)
-removal_dirty replies r new Barrier t h = absurd (false≢true h)
-removal_dirty replies r new (Troubled trouble) t h = absurd (false≢true h)
-removal_dirty replies r new (Ended ending part) t h = absurd (false≢true h)
+removal_dirty replies r new did t h = absurd (false≢true h)
 
 skipped_moved : (stage : MovingStage) → is_moved (movings.skipped_stage stage) ≡ is_moved stage
 skipped_moved moving.Take = refl
@@ -127,16 +100,7 @@ moving_moved replies m new (Merges transfer pair names) (stage, merges, new_is) 
 moving_moved replies m new (Asked question) (stage, new_is) old = ap (λ (x : Moving). is_moved x.stage) new_is ∙ old (λ h. false≢true h)
 moving_moved replies m new (Troubled trouble) (barrier, off, told, new_is) old = ap (λ (x : Moving). is_moved x.stage) new_is ∙ old (λ h. false≢true h)
 moving_moved replies m new (Ended Finished part) (is_done, part_is, new_is) old = ap (λ (x : Moving). is_moved x.stage) new_is ∙ old (λ h. false≢true h)
-moving_moved replies m new (Ended Aborted part) t old = absurd t
-moving_moved replies m new (Ended Killed part) t old = absurd t
-moving_moved replies m new (Ended NoMemory part) t old = absurd t
-moving_moved replies m new (Began part) t old = absurd t
-moving_moved replies m new (Chunk count) t old = absurd t
-moving_moved replies m new (Set path) t old = absurd t
-moving_moved replies m new (Placed path) t old = absurd t
-moving_moved replies m new (Removed made) t old = absurd t
-moving_moved replies m new (Made path) t old = absurd t
-moving_moved replies m new (Cleaned part) t old = absurd t
+moving_moved replies m new did t old = absurd t
 
 -- a folder that was synced is no longer listed
 pub not_listed : (up : Route) (routes : List Route) → Among (without up routes) up → ⊥
@@ -191,17 +155,8 @@ going_then (Began part) stage h = refl
 going_then (Removed path) stage h = refl
 going_then (Made path) stage h = refl
 going_then (Set path) stage h = refl
-going_then (Chunk count) stage h = absurd (false≢true h)
-going_then (Placed path) stage h = absurd (false≢true h)
-going_then (Kept kept) stage h = absurd (false≢true h)
-going_then (Asked question) stage h = absurd (false≢true h)
-going_then (Merges transfer pair names) stage h = absurd (false≢true h)
 going_then (Moved pair) stage h = refl
-going_then (Skipped path why) stage h = absurd (false≢true h)
-going_then (Cleaned part) stage h = absurd (false≢true h)
-going_then Barrier stage h = absurd (false≢true h)
-going_then (Troubled trouble) stage h = absurd (false≢true h)
-going_then (Ended ending part) stage h = absurd (false≢true h)
+going_then did stage h = absurd (false≢true h)
 
 going_still : (did : Did) (stage : TreeStage) → is_fresh_tree stage ≡ false → is_fresh_tree (after_report did stage) ≡ false
 going_still did stage going = by (changes did)

@@ -138,11 +138,4 @@ module _ (unclaimed : Route → Type 0) (log now : CallLog) (name : List ℕ) (l
       file_then now name moved (Troubled trouble) old new (progress moved.stage) refl stands (needs now name (progress moved.stage) old.levels (subst (LevelsKnow now name) (sym levels_are) (stops f.stage refl trouble.cause trouble.path calls)))
   file_step moved (Ended ending part) old new levels_are short tells calls stands =
       file_then now name moved (Ended ending part) old new (progress moved.stage) refl stands (needs now name (progress moved.stage) old.levels (subst (LevelsKnow now name) (sym levels_are) (same (some_log now log calls))))
-  file_step moved (Removed path) old new levels_are short tells calls stands = absurd tells
-  file_step moved (Made path) old new levels_are short tells calls stands = absurd tells
-  file_step moved (Set path) old new levels_are short tells calls stands = absurd tells
-  file_step moved (Kept path) old new levels_are short tells calls stands = absurd tells
-  file_step moved (Asked question) old new levels_are short tells calls stands = absurd tells
-  file_step moved (Merges transfer pair names) old new levels_are short tells calls stands = absurd tells
-  file_step moved (Moved pair) old new levels_are short tells calls stands = absurd tells
-  file_step moved (Skipped path why) old new levels_are short tells calls stands = absurd tells
+  file_step moved did old new levels_are short tells calls stands = absurd tells

@@ -115,13 +115,4 @@ module _ (log now : CallLog) (name : List ℕ) (l : Levels) (c : LinkCopying) (k
       (row_quiet name l known.clean known.nested log now (SyncFolder (folder_of c.target)) (Ok tt) known.tree (row_done log now (SyncFolder (folder_of c.target)) (rows_at at.Decided stage rows)) (λ q ns. tt) known.levels)))
   link_step moved (Troubled trouble) old new levels_are tells calls stands =
       link_then now name moved (Troubled trouble) old new (link_progress moved.stage) refl stands (needs now name (link_progress moved.stage) old.levels (subst (LevelsKnow now name) (sym levels_are) (stops c.stage trouble.cause trouble.path calls)))
-  link_step moved (Chunk count) old new levels_are tells calls stands = absurd tells
-  link_step moved (Ended ending part) old new levels_are tells calls stands = absurd tells
-  link_step moved (Removed path) old new levels_are tells calls stands = absurd tells
-  link_step moved (Made path) old new levels_are tells calls stands = absurd tells
-  link_step moved (Set path) old new levels_are tells calls stands = absurd tells
-  link_step moved (Kept path) old new levels_are tells calls stands = absurd tells
-  link_step moved (Asked question) old new levels_are tells calls stands = absurd tells
-  link_step moved (Merges transfer pair names) old new levels_are tells calls stands = absurd tells
-  link_step moved (Moved pair) old new levels_are tells calls stands = absurd tells
-  link_step moved (Skipped path why) old new levels_are tells calls stands = absurd tells
+  link_step moved did old new levels_are tells calls stands = absurd tells

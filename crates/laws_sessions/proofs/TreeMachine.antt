@@ -52,20 +52,7 @@ use Rattle.laws_sessions.proofs.TreeWorks.{works_file, works_link}
 -- only a trouble is passed over without a question
 pub passed_trouble : (skips : Kinds) (did : Did) (why : Cause) → passed_cause skips did ≡ Some why → (trouble : Trouble) × (did ≡ Troubled trouble)
 passed_trouble skips (Troubled trouble) why is = (trouble, refl)
-passed_trouble skips (Began part) why is = absurd (let f : ⊥ = cc in f)
-passed_trouble skips (Chunk count) why is = absurd (let f : ⊥ = cc in f)
-passed_trouble skips (Placed path) why is = absurd (let f : ⊥ = cc in f)
-passed_trouble skips (Removed path) why is = absurd (let f : ⊥ = cc in f)
-passed_trouble skips (Made path) why is = absurd (let f : ⊥ = cc in f)
-passed_trouble skips (Set path) why is = absurd (let f : ⊥ = cc in f)
-passed_trouble skips (Kept path) why is = absurd (let f : ⊥ = cc in f)
-passed_trouble skips (Asked question) why is = absurd (let f : ⊥ = cc in f)
-passed_trouble skips (Merges transfer pair names) why is = absurd (let f : ⊥ = cc in f)
-passed_trouble skips (Moved pair) why is = absurd (let f : ⊥ = cc in f)
-passed_trouble skips (Skipped path cause) why is = absurd (let f : ⊥ = cc in f)
-passed_trouble skips (Cleaned part) why is = absurd (let f : ⊥ = cc in f)
-passed_trouble skips Barrier why is = absurd (let f : ⊥ = cc in f)
-passed_trouble skips (Ended ending part) why is = absurd (let f : ⊥ = cc in f)
+passed_trouble skips did why is = absurd (let f : ⊥ = cc in f)
 
 -- what is passed over is told so, or that there is no memory for that
 abbrev pub SaysPassed : Did → Type 0

@@ -184,14 +184,9 @@ module _ (told : HistoryFacts) (dirty dirty_after : List Route) (marks : Marks) 
   folder_then (Placed path) is some = some_before (Placed path) is (λ may. may)
   folder_then (Cleaned part) is some = some_before (Cleaned part) is (λ may. may)
   folder_then Barrier is some = some_before Barrier is (λ may. may)
-  folder_then (Kept path) is some = still_so some
-  folder_then (Asked question) is some = still_so some
   folder_then (Removed path) is some = absurd (subst MayTell is tells.may)
-  folder_then (Merges transfer pair names) is some = still_so some
   folder_then (Moved pair) is some = absurd (subst MayTell is tells.may)
-  folder_then (Skipped path cause) is some = still_so some
-  folder_then (Troubled trouble) is some = still_so some
-  folder_then (Ended ending part) is some = still_so some
+  folder_then did is some = still_so some
 
   tree_known : (m : Marks) → Then told dirty_after log now c did new.at m → TreeKnown after dirty_after m now (course_after did) new
   tree_known m h = by (is_fresh new.at.stage) refl
@@ -209,20 +204,7 @@ module _ (told : HistoryFacts) (dirty dirty_after : List Route) (marks : Marks) 
 
   knows_after : (d : Did) → (m : Marks) → TreeKnown (said_after now d (Copy c) told) dirty_after m now (course_after d) new → KnowsAfter d (said_after now d (Copy c) told) dirty_after now (course_after d) (Copy new) m
   knows_after (Ended ending part) m known = refl
-  knows_after (Began part) m known = known
-  knows_after (Chunk bytes) m known = known
-  knows_after (Placed path) m known = known
-  knows_after (Removed path) m known = known
-  knows_after (Made path) m known = known
-  knows_after (Set path) m known = known
-  knows_after (Kept path) m known = known
-  knows_after (Asked question) m known = known
-  knows_after (Merges transfer pair names) m known = known
-  knows_after (Moved pair) m known = known
-  knows_after (Skipped path cause) m known = known
-  knows_after (Cleaned part) m known = known
-  knows_after Barrier m known = known
-  knows_after (Troubled trouble) m known = known
+  knows_after did m known = known
 
   pub tree_tells : Steps told dirty dirty_after marks log now kept did (course_after did) (Copy c) (Copy new)
   tree_tells = comes_map told after dirty_after log now (Then told dirty_after log now c did new.at) (KnowsAfter did after dirty_after now (course_after did) (Copy new)) (λ m kept_then h. knows_after did m (tree_known m h)) stepped.0

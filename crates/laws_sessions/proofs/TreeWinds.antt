@@ -215,15 +215,4 @@ module _ (told : HistoryFacts) (dirty dirty_after : List Route) (marks : Marks) 
     tree_winds Barrier count tells f0 f1 wound s rows leaves =
         tries leaves.folder leaves.refusal wound (left_item ending c new (record { did = Barrier; calls = count; left = tells }) dirty dirty_after (Some log) (Some now) f0 f1 wound s) (sym leaves.dirty_is) (leaves.tried log refl)
     tree_winds (Ended how stays) count tells f0 f1 wound s (mid, removal, same) leaves = ends_all how stays (let may = wound.may in may.1) leaves.dirty_is mid removal (some_log now mid same)
-    tree_winds (Began path) count tells f0 f1 wound s rows leaves = absurd wound.may
-    tree_winds (Chunk bytes) count tells f0 f1 wound s rows leaves = absurd wound.may
-    tree_winds (Placed path) count tells f0 f1 wound s rows leaves = absurd wound.may
-    tree_winds (Removed path) count tells f0 f1 wound s rows leaves = absurd wound.may
-    tree_winds (Made path) count tells f0 f1 wound s rows leaves = absurd wound.may
-    tree_winds (Set path) count tells f0 f1 wound s rows leaves = absurd wound.may
-    tree_winds (Kept path) count tells f0 f1 wound s rows leaves = absurd wound.may
-    tree_winds (Asked question) count tells f0 f1 wound s rows leaves = absurd wound.may
-    tree_winds (Merges transfer pair names) count tells f0 f1 wound s rows leaves = absurd wound.may
-    tree_winds (Moved pair) count tells f0 f1 wound s rows leaves = absurd wound.may
-    tree_winds (Skipped path cause) count tells f0 f1 wound s rows leaves = absurd wound.may
-    tree_winds (Troubled trouble) count tells f0 f1 wound s rows leaves = absurd wound.may
+    tree_winds did count tells f0 f1 wound s rows leaves = absurd wound.may

@@ -172,17 +172,7 @@ module _ (told : HistoryFacts) (dirty dirty_after : List Route) (marks : Marks) 
     file_modes (Troubled trouble) moved t new stands h = h
     file_modes Barrier moved t new stands h = h
     file_modes (Ended Finished part) moved (stage, synced, part_is, new_is) new stands h = not_decided f.stage going stage
-    file_modes (Ended Aborted part) moved t new stands h = absurd t
-    file_modes (Ended Killed part) moved t new stands h = absurd t
-    file_modes (Ended NoMemory part) moved t new stands h = absurd t
-    file_modes (Removed path) moved t new stands h = absurd t
-    file_modes (Made path) moved t new stands h = absurd t
-    file_modes (Set path) moved t new stands h = absurd t
-    file_modes (Kept path) moved t new stands h = absurd t
-    file_modes (Asked question) moved t new stands h = absurd t
-    file_modes (Merges transfer pair names) moved t new stands h = absurd t
-    file_modes (Moved pair) moved t new stands h = absurd t
-    file_modes (Skipped path cause) moved t new stands h = absurd t
+    file_modes did moved t new stands h = absurd t
 
     pub works_file : (did : Did) (new : Seen) → FileWorks unclaimed f mid new did (Some log) (Some now) → Listed did new → Comes_to did new
     works_file did new w list =
@@ -350,13 +340,4 @@ module _ (told : HistoryFacts) (dirty dirty_after : List Route) (marks : Marks) 
     works_link (Troubled trouble) w list = (let tells = w.tells in link_quiet trouble w.moved tells.1 w.stands list (quiet_stop l.stage trouble.cause trouble.path going_link (w.called log refl)))
     works_link (Began part) w list = (let tells = w.tells in not_stage link_stage.Make tells.0 (λ e. let f : ⊥ = cc in f))
     works_link Barrier w list = (let tells = w.tells in not_stage link_stage.Decided tells.0 (λ e. let f : ⊥ = cc in f))
-    works_link (Chunk count) w list = absurd w.tells
-    works_link (Ended ending part) w list = absurd w.tells
-    works_link (Removed path) w list = absurd w.tells
-    works_link (Made path) w list = absurd w.tells
-    works_link (Set path) w list = absurd w.tells
-    works_link (Kept path) w list = absurd w.tells
-    works_link (Asked question) w list = absurd w.tells
-    works_link (Merges transfer pair names) w list = absurd w.tells
-    works_link (Moved pair) w list = absurd w.tells
-    works_link (Skipped path cause) w list = absurd w.tells
+    works_link did w list = absurd w.tells

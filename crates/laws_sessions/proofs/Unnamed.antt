@@ -48,19 +48,10 @@ pub step_unnamed : (log : CallLog) (did : Did) (item : Option ItemOfJob) (v : Vi
 step_unnamed log (Removed file) item v path unnamed = put_off v file None path unnamed
 step_unnamed log (Placed target) item v path unnamed = placed_unnamed item target v path unnamed
 step_unnamed log (Ended ending (Some part)) item v path unnamed = put_off v part (value_at (current log) part) path unnamed
-step_unnamed log (Ended ending None) item v path unnamed = refl
-step_unnamed log (Began part) item v path unnamed = refl
-step_unnamed log (Chunk count) item v path unnamed = refl
 step_unnamed log (Set changed) item v path unnamed = set_unnamed item changed v path unnamed
 step_unnamed log (Made folder) item v path unnamed = put_off v folder (Some (made_by item folder v)) path unnamed
-step_unnamed log (Kept kept) item v path unnamed = refl
-step_unnamed log (Asked question) item v path unnamed = refl
-step_unnamed log (Merges transfer pair names) item v path unnamed = refl
 step_unnamed log (Moved pair) item v path unnamed = moved_off pair v path unnamed
-step_unnamed log (Skipped file cause) item v path unnamed = refl
-step_unnamed log (Cleaned part) item v path unnamed = refl
-step_unnamed log Barrier item v path unnamed = refl
-step_unnamed log (Troubled trouble) item v path unnamed = refl
+step_unnamed log did item v path unnamed = refl
 
 event_unnamed : (log : CallLog) (what : Event) (jobs : List LiveJob) (v : View) (path : Route) → names_path what path ≡ false → replayed_event log what jobs v path ≡ v path
 event_unnamed log (Step id did) jobs v path unnamed = step_unnamed log did (live_item id jobs) v path unnamed
@@ -83,34 +74,15 @@ pub named_step : (did : Did) (left parts : List Route) (path : Route) → names 
 named_step (Began part) left parts path unnamed (inl same) = absurd (both_ways _ unnamed (subst (λ q. same_path path q ≡ true) same (same_path-self path)))
 named_step (Began part) left parts path unnamed (inr among) = among
 named_step (Placed target) left parts path unnamed among = in_filter (λ kept. Rattle.std.specs.Prelude.not (same_path kept target)) path parts (if_among_other target path left (without target parts) unnamed among)
-named_step (Chunk count) left parts path unnamed among = among
-named_step (Set changed) left parts path unnamed among = among
-named_step (Removed file) left parts path unnamed among = among
 named_step (Made folder) left parts path unnamed among = in_filter (λ kept. Rattle.std.specs.Prelude.not (same_path kept folder)) path parts among
-named_step (Kept kept) left parts path unnamed among = among
-named_step (Asked question) left parts path unnamed among = among
-named_step (Merges transfer pair names) left parts path unnamed among = among
 named_step (Moved pair) left parts path unnamed among = named_off pair left parts path unnamed among
-named_step (Skipped file cause) left parts path unnamed among = among
-named_step (Cleaned part) left parts path unnamed among = among
-named_step Barrier left parts path unnamed among = among
-named_step (Troubled trouble) left parts path unnamed among = among
-named_step (Ended ending part) left parts path unnamed among = among
+named_step did left parts path unnamed among = among
 
 -- what it showed before its last change stays so, too
 pub earlier_unnamed : (did : Did) (v before : View) (path : Route) → names did path ≡ false → earlier_step did v before path ≡ before path
 earlier_unnamed (Placed target) v before path unnamed = put_off before target (v target).value path unnamed
 earlier_unnamed (Removed file) v before path unnamed = put_off before file (v file).value path unnamed
 earlier_unnamed (Made folder) v before path unnamed = put_off before folder (v folder).value path unnamed
-earlier_unnamed (Began part) v before path unnamed = refl
-earlier_unnamed (Chunk count) v before path unnamed = refl
 earlier_unnamed (Set changed) v before path unnamed = put_off before changed (v changed).value path unnamed
-earlier_unnamed (Kept kept) v before path unnamed = refl
-earlier_unnamed (Asked question) v before path unnamed = refl
-earlier_unnamed (Merges transfer pair names) v before path unnamed = refl
 earlier_unnamed (Moved pair) v before path unnamed = kept_off pair v before path unnamed
-earlier_unnamed (Skipped file cause) v before path unnamed = refl
-earlier_unnamed (Cleaned part) v before path unnamed = refl
-earlier_unnamed Barrier v before path unnamed = refl
-earlier_unnamed (Troubled trouble) v before path unnamed = refl
-earlier_unnamed (Ended ending part) v before path unnamed = refl
+earlier_unnamed did v before path unnamed = refl
