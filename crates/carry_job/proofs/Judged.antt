@@ -7,7 +7,7 @@ use Rattle.mc_text.specs.declared.kind.Kind.TheVariants as kind
 use Rattle.tree_trait.specs.declared.file_system.FileSystem.{FileSystem}
 use Rattle.tree_trait.specs.declared.calls.Meta.{Meta}
 use Rattle.tree_trait.specs.declared.calls.TreeError.TheVariants as refused
-use Rattle.tree_trait.specs.Answers.{HasRisen, IsInRange}
+use Rattle.tree_trait.specs.Answers.{IsInRange}
 use Rattle.tree_trait.specs.Change.{CallLog}
 use Rattle.job_reports.specs.declared.question.Question.{Question}
 use Rattle.job_reports.specs.declared.report.Cause.{Cause}
@@ -24,10 +24,9 @@ use Rattle.job_answers.specs.declared.replies.Replies.{Replies}
 use Rattle.job_answers.specs.Decisions.{decision_on}
 use Rattle.job_answers.specs.Questions.{placing_at}
 use Rattle.copy_file.specs.Copying.{Places}
-use Rattle.copy_file.specs.Looking.{IsThere, facts_in}
+use Rattle.copy_file.specs.Looking.{IsThere}
 use Rattle.carry_job.specs.declared.taking.Taken.{Taken}
-use Rattle.carry_job.specs.declared.taking.Taken.TheVariants as taken
-use Rattle.carry_job.specs.Taking.{ByAnswer, IsDecided, IsNotCarried, IsOpen, IsSound, IsSpecial, Judges, JudgesBy, JudgesOnto, LooksStop, StandsInTheWay, Stands, Takes, TakesDecided, TakesSingle, is_carried, question_at}
+use Rattle.carry_job.specs.Taking.{ByAnswer, IsOpen, IsSound, IsSpecial, Judges, JudgesBy, LooksStop, Stands, Takes, TakesDecided, TakesSingle, is_carried, question_at}
 
 -- away from a barrier, and no fault
 pub record IsQuietTrouble (t : Trouble) : Type 0 where
