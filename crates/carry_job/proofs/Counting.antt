@@ -1,26 +1,19 @@
 -- The calls that a step made, counted.
-use Rattle.std.proofs.Common.{◌≡◌, ◌⊎◌, ℕ, ◌+◌, ◌≤◌, Bool, [], ◌∷◌, refl, sym, ◌∙◌, ap, subst, inl, inr, arith, Option, Some, None, Result, Ok, Err, false}
-use Rattle.std.specs.Prelude.{length}
+use Rattle.std.proofs.Common.{◌≡◌, ℕ, ◌≤◌, Bool, [], ◌∷◌, sym, subst, inl, inr, arith, Option, None, Result, Ok, Err, false}
 use Rattle.mc_text.specs.Routes.{Route}
 use Rattle.tree_trait.specs.Calls.{Call, RemoveFile, SyncFolder}
-use Rattle.tree_trait.specs.Change.{CallLog, current}
-use Rattle.tree_trait.specs.Answers.{IfKnown, HasCause, HasRisen, Performs}
-use Rattle.tree_trait.specs.declared.calls.TreeError.{TreeError}
-use Rattle.tree_trait.specs.declared.calls.TreeError.TheVariants as refused
-use Rattle.job_reports.specs.declared.report.Cause.TheVariants.{Tree}
+use Rattle.tree_trait.specs.Change.{CallLog}
+use Rattle.tree_trait.specs.Answers.{HasRisen}
 use Rattle.job_reports.specs.declared.report.Did.{Did}
 use Rattle.job_reports.specs.declared.report.Did.TheVariants.{Troubled, Removed, Barrier, Kept, Asked, Ended}
-use Rattle.job_reports.specs.declared.report.Ending.{Ending}
 use Rattle.job_reports.specs.declared.report.Ending.TheVariants.{Finished}
-use Rattle.job_reports.specs.declared.report.Trouble.{Trouble}
 use Rattle.job_reports.specs.declared.stop.Stop.{Stop}
-use Rattle.job_reports.specs.CallRuns.{HasMore}
 use Rattle.job_reports.specs.Paths.{folder_of}
 use Rattle.job_reports.specs.Reports.{IsFault}
-use Rattle.job_reports.specs.Stops.{Ran, calls_made_for, out_of_memory_at, refusal_in}
+use Rattle.job_reports.specs.Stops.{Ran, out_of_memory_at}
 use Rattle.job_reports.proofs.Runs.{risen_before, same_more}
 use Rattle.job_answers.specs.declared.replies.Replies.{Replies}
-use Rattle.copy_file.specs.Copying.{Copying, Places, begun_copy}
+use Rattle.copy_file.specs.Copying.{Copying, Places}
 use Rattle.copy_file.specs.CopySteps as file_steps
 use Rattle.copy_file.specs.PartSteps.{MakesPart}
 use Rattle.copy_file.specs.declared.stage.FolderState.{FolderState}
@@ -33,7 +26,7 @@ use Rattle.carry_job.specs.declared.stage.CarryStage.TheVariants.{Take, File, Li
 use Rattle.carry_job.specs.declared.taking.Taken.{Taken}
 use Rattle.carry_job.specs.declared.taking.Taken.TheVariants as taken
 use Rattle.carry_job.specs.Carryings.{passed}
-use Rattle.carry_job.specs.CarrySteps.{Begins, Counts, FileBegins, FileWorks, IsLinkBegun, KeepsTarget, LinkBegins, LinkPartMade, LinkWorks, MakesCall, Nameless, Removes, SaysOnly, Stopped, TakenUp, Works, after_step, out_of_memory_in, told_call}
+use Rattle.carry_job.specs.CarrySteps.{Begins, Counts, IsLinkBegun, KeepsTarget, MakesCall, SaysOnly, Works, after_step, out_of_memory_in, told_call}
 
 -- a report that tells no fault
 abbrev NoFault : Did → Type 0

@@ -1,15 +1,14 @@
 -- What is left as it is, and the last steps.
-use Rattle.std.proofs.Common.{◌≡◌, ◌⊎◌, ℕ, ◌+◌, ◌≤◌, true, false, refl, sym, ◌∙◌, ap, subst, inl, inr, arith, Option, None, Some, Result, Ok, Err}
+use Rattle.std.proofs.Common.{◌≡◌, ℕ, ◌+◌, ◌≤◌, true, refl, sym, ◌∙◌, ap, subst, inl, inr, arith, Option, None, Some, Result, Ok, Err}
 use Rattle.std.proofs.lemmas.Bool.{false≢true}
 use Rattle.mc_text.specs.Routes.{Route}
 use Rattle.tree_trait.specs.Calls.{Call, RemoveFile, SyncFolder}
-use Rattle.tree_trait.specs.Change.{CallLog, with_change}
-use Rattle.tree_trait.specs.Answers.{IfKnown, HasCause, HasRisen, Performs}
+use Rattle.tree_trait.specs.Change.{CallLog}
+use Rattle.tree_trait.specs.Answers.{HasCause, HasRisen, Performs}
 use Rattle.tree_trait.specs.declared.calls.TreeError.{TreeError}
 use Rattle.tree_trait.specs.declared.calls.TreeError.TheVariants as refused
 use Rattle.job_reports.specs.declared.report.Cause.{Cause}
 use Rattle.job_reports.specs.declared.report.Did.{Did}
-use Rattle.job_reports.specs.declared.report.Did.TheVariants.{Barrier, Cleaned, Ended}
 use Rattle.job_reports.specs.declared.report.Ending.{Ending}
 use Rattle.job_reports.specs.CallRuns.{HasMore}
 use Rattle.job_reports.specs.Paths.{folder_of}
@@ -29,9 +28,9 @@ use Rattle.copy_link.specs.declared.stage.Stage.TheVariants as link_stage
 use Rattle.carry_job.specs.declared.stage.CarryStage.{CarryStage}
 use Rattle.carry_job.specs.declared.stage.CarryStage.TheVariants.{Take, File, Link, SyncTarget, Remove, SyncSource, Finish, Settle, PassedOver, Stays}
 use Rattle.carry_job.specs.declared.winding.AfterLastStep.{AfterLastStep}
-use Rattle.carry_job.specs.Carryings.{Carrying, IsFileOf, IsLinkOf, IsOwn, carrying, has_part, left_at, skipped_stage, passed, taken_anew}
+use Rattle.carry_job.specs.Carryings.{Carrying, IsFileOf, IsLinkOf, IsOwn, carrying, has_part, left_at, skipped_stage, taken_anew}
 use Rattle.carry_job.specs.CarrySteps.{CarrySkips, Passes, SkipsAt}
-use Rattle.carry_job.specs.LastCarrySteps.{CleansPart, EndsSo, LastCarryStep, LastCounts, LeavesPart, TriesPart, TriesSync, WindsAt, last_step}
+use Rattle.carry_job.specs.LastCarrySteps.{EndsSo, LastCarryStep, LastCounts, LeavesPart, TriesPart, TriesSync, WindsAt}
 
 -- a part that is to be removed stands
 skipped_part : (stage : FileStage) → has_part stage ≡ true → has_part (file.skipped_stage stage) ≡ true

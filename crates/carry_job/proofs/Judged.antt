@@ -1,5 +1,6 @@
 -- What the looks told comes to this.
-use Rattle.std.proofs.Common.{◌≡◌, ◌⊎◌, ℕ, ◌≤◌, refl, sym, ◌∙◌, ap, subst, inl, inr, false, Option, Some, None, Result, Ok, Err}
+use Rattle.std.proofs.Common.{◌≡◌, ◌⊎◌, ℕ, ◌≤◌, refl, sym, ◌∙◌, ap, subst, inl, inr, true, false, Option, Some, None, Result, Ok, Err}
+use Rattle.std.proofs.lemmas.Bool.{false≢true}
 use Rattle.std.specs.Prelude.{IfErr, IfOk, MatchResult}
 use Rattle.mc_text.specs.Routes.{Route}
 use Rattle.mc_text.specs.declared.kind.Kind.{Kind}
@@ -7,7 +8,7 @@ use Rattle.mc_text.specs.declared.kind.Kind.TheVariants as kind
 use Rattle.tree_trait.specs.declared.file_system.FileSystem.{FileSystem}
 use Rattle.tree_trait.specs.declared.calls.Meta.{Meta}
 use Rattle.tree_trait.specs.declared.calls.TreeError.TheVariants as refused
-use Rattle.tree_trait.specs.Answers.{HasRisen, IsInRange}
+use Rattle.tree_trait.specs.Answers.{IsInRange}
 use Rattle.tree_trait.specs.Change.{CallLog}
 use Rattle.job_reports.specs.declared.question.Question.{Question}
 use Rattle.job_reports.specs.declared.report.Cause.{Cause}
@@ -24,10 +25,9 @@ use Rattle.job_answers.specs.declared.replies.Replies.{Replies}
 use Rattle.job_answers.specs.Decisions.{decision_on}
 use Rattle.job_answers.specs.Questions.{placing_at}
 use Rattle.copy_file.specs.Copying.{Places}
-use Rattle.copy_file.specs.Looking.{IsThere, facts_in}
+use Rattle.copy_file.specs.Looking.{IsThere}
 use Rattle.carry_job.specs.declared.taking.Taken.{Taken}
-use Rattle.carry_job.specs.declared.taking.Taken.TheVariants as taken
-use Rattle.carry_job.specs.Taking.{ByAnswer, IsDecided, IsNotCarried, IsOpen, IsSound, IsSpecial, Judges, JudgesBy, JudgesOnto, LooksStop, StandsInTheWay, Stands, Takes, TakesDecided, TakesSingle, is_carried, question_at}
+use Rattle.carry_job.specs.Taking.{ByAnswer, IsApart, IsNotInTheWay, IsOpen, IsSound, IsSpecial, Judges, JudgesBy, LooksStop, Stands, Takes, TakesDecided, TakesSingle, is_carried, question_at}
 
 -- away from a barrier, and no fault
 pub record IsQuietTrouble (t : Trouble) : Type 0 where
@@ -47,28 +47,43 @@ module _ (s : FileSystem) (p : Places) (replies : Replies) (source : Meta) (stan
   out_of_memory t is = inr (inr (inr (inr (ap (λ (u : Trouble). u.cause) is, ap (λ (u : Trouble). u.path) is))))
 
   -- a source that is no file and no link
-  special : (t : Trouble) → is_carried source.kind ≡ false → IsSpecial p t → LooksStop s p t.cause t.path
-  special t other (inl is) = inr (inr (inr (inl (record {
+  special : IsApart s p source → (t : Trouble) → is_carried source.kind ≡ false → IsSpecial p t → LooksStop s p t.cause t.path
+  special apart t other (inl is) = inr (inr (inr (inl (record {
     cause_is = ap (λ (u : Trouble). u.cause) is;
     path_is = ap (λ (u : Trouble). u.path) is;
     source = source;
     of_source = stands;
     other = other;
+    apart = apart;
   }))))
-  special t other (inr is) = out_of_memory t is
+  special apart t other (inr is) = out_of_memory t is
 
   -- a file or a link whose target is open
-  single : IsOpen s p replies → (result : Result Taken Trouble) → TakesSingle p source result → Comes result
-  single free (Ok what) (inl (file, is)) = subst (Takes s p replies) (sym is) (source, record { stands = stands; kind_is = file; open_target = free }, refl)
-  single free (Ok what) (inr (link, is)) = subst (Takes s p replies) (sym is) (source, record { stands = stands; kind_is = link; open_target = free })
-  single free (Err t) (other, is) = special t other is
+  single : IsOpen s p replies → (is_carried source.kind ≡ false → IsApart s p source) → (result : Result Taken Trouble) → TakesSingle p source result → Comes result
+  single free apart (Ok what) (inl (file, is)) = subst (Takes s p replies) (sym is) (source, record { stands = stands; kind_is = file; open_target = free }, refl)
+  single free apart (Ok what) (inr (link, is)) = subst (Takes s p replies) (sym is) (source, record { stands = stands; kind_is = link; open_target = free })
+  single free apart (Err t) (other, is) = special (apart other) t other is
+
+  -- what is no file and no link is never asked about
+  asked : (k at : Kind) → placing_at (Copied k) (Some at) ≡ placing.Asks → is_carried k ≡ true
+  asked kind.File at is = refl
+  asked kind.Link at is = refl
+  asked kind.Folder kind.File is = absurd cc
+  asked kind.Folder kind.Folder is = absurd cc
+  asked kind.Folder kind.Link is = absurd cc
+  asked kind.Folder kind.Other is = absurd cc
+  asked kind.Other kind.File is = absurd cc
+  asked kind.Other kind.Folder is = absurd cc
+  asked kind.Other kind.Link is = absurd cc
+  asked kind.Other kind.Other is = absurd cc
 
   module _ (target : Meta) (there : Stands s p.target target) where
     -- by the answers that stand
     decided : placing_at (Copied source.kind) (Some target.kind) ≡ placing.Asks → (decision : Decision) → decision_on replies (question_at p source target) ≡ decision
         → (result : Result Taken Trouble) → TakesDecided decision (question_at p source target) p source result → Comes result
     decided meets Replace is result takes =
-        single (inr (question_at p source target, record { source = source; target = target; of_source = stands; of_target = there; meets = meets; asks = refl; decides = is })) result takes
+        single (inr (question_at p source target, record { source = source; target = target; of_source = stands; of_target = there; meets = meets; asks = refl; decides = is }))
+        (λ other. absurd (false≢true (sym other ∙ asked source.kind target.kind meets))) result takes
     decided meets Keep is result takes =
         subst Comes (sym takes) (question_at p source target, record { source = source; target = target; of_source = stands; of_target = there; meets = meets; asks = refl; decides = is })
     decided meets Ask is result takes =
@@ -116,14 +131,14 @@ module _ (s : FileSystem) (p : Places) (replies : Replies) (source : Meta) (stan
     placed : (what : Placing) → placing_at (Copied source.kind) (Some target.kind) ≡ what → (result : Result Taken Trouble) → JudgesBy what p replies source target result → Comes result
     placed placing.Asks is result h = answered is result h
     placed (placing.TargetKind at) is result (t, same, told) = subst Comes (sym same) (in_the_way at t is told)
-    placed placing.SpecialSource is result (t, same, told) = subst Comes (sym same) (special t (uncarried source.kind target.kind placing.SpecialSource is (inl refl)) told)
-    placed placing.Merges is result (t, same, told) = subst Comes (sym same) (special t (uncarried source.kind target.kind placing.Merges is (inr refl)) told)
+    placed placing.SpecialSource is result (t, same, told) = subst Comes (sym same) (special (inr (target, there, subst IsNotInTheWay (sym is) tt)) t (uncarried source.kind target.kind placing.SpecialSource is (inl refl)) told)
+    placed placing.Merges is result (t, same, told) = subst Comes (sym same) (special (inr (target, there, subst IsNotInTheWay (sym is) tt)) t (uncarried source.kind target.kind placing.Merges is (inr refl)) told)
     placed placing.Free is result h = absurd h
     placed placing.Replaces is result h = absurd h
 
   -- what comes of it
   pub judged : (target : Option Meta) (result : Result Taken Trouble) → IsThere s p.target target → Judges p replies source target result → Comes result
-  judged None result free h = single (inl free) result h
+  judged None result free h = single (inl free) (λ other. inl free) result h
   judged (Some target) result (there, is) h = placed target (record { there = there; is = is }) (placing_at (Copied source.kind) (Some target.kind)) refl result h
 
 -- what is told of a file is in range

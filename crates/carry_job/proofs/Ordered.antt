@@ -1,5 +1,5 @@
 -- The source is removed only where the copy was placed, and the target's folder was synced then.
-use Rattle.std.proofs.Common.{◌≡◌, ◌⊎◌, ℕ, Bool, true, false, List, [], ◌∷◌, refl, sym, ◌∙◌, ap, subst, inl, inr, Option, Some, None, Result, Ok, Err}
+use Rattle.std.proofs.Common.{◌≡◌, ℕ, Bool, true, false, List, [], ◌∷◌, refl, sym, ◌∙◌, ap, subst, inl, inr, Option, Result, Ok, Err}
 use Rattle.std.specs.Prelude.{⊤}
 use Rattle.mc_text.specs.Routes.{Route}
 use Rattle.tree_trait.specs.Calls.{Call, RemoveFile, SyncFolder}
@@ -8,7 +8,6 @@ use Rattle.tree_trait.specs.Answers.{IfKnown}
 use Rattle.job_reports.specs.declared.report.Cause.{Cause}
 use Rattle.job_reports.specs.declared.report.Did.{Did}
 use Rattle.job_reports.specs.declared.report.Did.TheVariants as did
-use Rattle.job_reports.specs.declared.report.Ending.TheVariants as ending
 use Rattle.job_reports.specs.declared.stop.Stop.{Stop}
 use Rattle.job_reports.specs.CallRuns.{AllDone}
 use Rattle.job_reports.specs.Paths.{folder_of}
@@ -29,9 +28,9 @@ use Rattle.carry_job.specs.declared.stage.CarryStage.{CarryStage}
 use Rattle.carry_job.specs.declared.stage.CarryStage.TheVariants.{Take, File, Link, SyncTarget, Remove, SyncSource, Finish, Settle, PassedOver, Stays}
 use Rattle.carry_job.specs.declared.taking.Taken.{Taken}
 use Rattle.carry_job.specs.declared.taking.Taken.TheVariants as taken
-use Rattle.carry_job.specs.Carryings.{Carrying, IsFileOf, IsGoing, IsLinkOf, IsOwn, after_beginning, after_cleaning, after_file, after_link, after_link_beginning, after_link_cleaning, begun_carrying, carrying, left_at, passed, skipped_stage, taken_anew}
-use Rattle.carry_job.specs.CarrySteps.{Begins, CarrySkips, CarryStep, FileBegins, FileWorks, IsLinkBegun, KeepsTarget, LinkWorks, LinkPartMade, MakesCall, Passes, SaysOnly, SkipsAt, Works, after_step, link_begun, told_call}
-use Rattle.carry_job.specs.Orders.{IsOnDiskIn, IsPlacedIn, LeadTo, OrderLaw, PlacesCopy, RemovesLast, Steps, Skips, Retries, SyncsTarget, Turn, Turns}
+use Rattle.carry_job.specs.Carryings.{Carrying, IsFileOf, IsLinkOf, IsOwn, after_beginning, after_cleaning, after_file, after_link, after_link_beginning, after_link_cleaning, passed, skipped_stage, taken_anew}
+use Rattle.carry_job.specs.CarrySteps.{Begins, IsLinkBegun, MakesCall, Passes, SaysOnly, SkipsAt, Works, after_step, link_begun, told_call}
+use Rattle.carry_job.specs.Orders.{IsOnDiskIn, IsPlacedIn, LeadTo, OrderLaw, RemovesLast, Steps, Skips, Retries, Turn}
 use Rattle.carry_job.proofs.Ending.{anew_own, skips_file, skips_link}
 use Rattle.carry_job.proofs.Stepping.{begun_of, file_going, going_own, link_begun_going, link_going}
 

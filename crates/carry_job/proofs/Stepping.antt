@@ -1,17 +1,15 @@
 -- Which copy is at work, and what a step makes of it.
-use Rattle.std.proofs.Common.{◌≡◌, ◌⊎◌, ℕ, ◌≤◌, Bool, true, false, refl, sym, ◌∙◌, ap, subst, inl, inr, Option, None, Some}
+use Rattle.std.proofs.Common.{◌≡◌, ◌⊎◌, ℕ, ◌≤◌, true, false, refl, sym, ◌∙◌, ap, subst, inl, inr, Option, None}
 use Rattle.std.proofs.lemmas.Bool.{false≢true}
 use Rattle.mc_text.specs.Routes.{Route}
 use Rattle.tree_trait.specs.Change.{CallLog, current}
 use Rattle.tree_trait.specs.Answers.{IfKnown, HasRisen}
 use Rattle.tree_trait.specs.declared.calls.TreeError.TheVariants as refused
-use Rattle.job_reports.specs.declared.report.Cause.{Cause}
 use Rattle.job_reports.specs.declared.report.Cause.TheVariants.{Tree}
 use Rattle.job_reports.specs.declared.report.Did.{Did}
 use Rattle.job_reports.specs.declared.report.Did.TheVariants as did
 use Rattle.job_reports.specs.declared.report.Ending.TheVariants as ending
 use Rattle.job_reports.specs.declared.report.Trouble.{Trouble}
-use Rattle.job_reports.specs.Reading.{Peeks}
 use Rattle.job_answers.specs.declared.replies.Replies.{Replies}
 use Rattle.copy_file.specs.Copying as file
 use Rattle.copy_file.specs.Copying.{Copying, Places, begun_copy}
@@ -20,7 +18,6 @@ use Rattle.copy_file.specs.LastSteps as file_last
 use Rattle.copy_file.specs.PartNames.{IsChosen, NameStops}
 use Rattle.copy_file.specs.PartSteps.{MakesPart, TellsMade}
 use Rattle.copy_file.specs.declared.stage.FolderState.{FolderState}
-use Rattle.copy_file.specs.declared.stage.Next.TheVariants as next
 use Rattle.copy_file.specs.declared.stage.SourceFacts.{SourceFacts}
 use Rattle.copy_file.specs.declared.stage.Stage.{Stage as FileStage}
 use Rattle.copy_file.specs.declared.stage.Stage.TheVariants as file_stage
@@ -34,7 +31,7 @@ use Rattle.carry_job.specs.declared.stage.CarryStage.{CarryStage}
 use Rattle.carry_job.specs.declared.stage.CarryStage.TheVariants.{Take, File, Link, SyncTarget, Remove, SyncSource, Finish, Settle, PassedOver, Stays}
 use Rattle.carry_job.specs.declared.taking.Taken.{Taken}
 use Rattle.carry_job.specs.Carryings.{Carrying, IsFileOf, IsGoing, IsLinkOf, IsOwn, after_beginning, after_cleaning, after_file, after_link, after_link_beginning, after_link_cleaning, carrying, has_part, left_at}
-use Rattle.carry_job.specs.CarrySteps.{Begins, CarryStep, FileBegins, FileWorks, LinkBegins, IsLinkBegun, LinkPartMade, LinkWorks, Nameless, SaysOnly, Stopped, TakenUp, Works, after_step}
+use Rattle.carry_job.specs.CarrySteps.{Begins, CarryStep, FileBegins, FileWorks, LinkBegins, IsLinkBegun, Nameless, Works, after_step}
 use Rattle.carry_job.specs.Taking.{LooksStop, Takes}
 use Rattle.carry_job.proofs.Counting.{works_counts}
 

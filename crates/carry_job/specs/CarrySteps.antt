@@ -1,8 +1,8 @@
 -- What a step of the carrying of a thing does, by where it stands. The copies of a file and of a link say
 -- each what their steps report and call; here stands which of them is at work, on which paths, and what comes
 -- then.
-use Rattle.std.specs.Prelude.{◌≡◌, ◌⊎◌, ℕ, ◌≤◌, ⊤, Bool, true, false, [], ◌∷◌}
-use Rattle.std.specs.Prelude.{Option, Some, None, Result, Ok, Err}
+use Rattle.std.specs.Prelude.{◌≡◌, ◌⊎◌, ℕ, ◌≤◌, Bool, true, false, [], ◌∷◌}
+use Rattle.std.specs.Prelude.{Option, None, Result, Ok, Err}
 use Rattle.mc_text.specs.Routes.{Route}
 use Rattle.tree_trait.specs.Calls.{Call, RemoveFile, SyncFolder}
 use Rattle.tree_trait.specs.Change.{CallLog, current}

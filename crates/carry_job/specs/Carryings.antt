@@ -1,5 +1,5 @@
 -- Where the carrying of a thing stands, and how it goes on.
-use Rattle.std.specs.Prelude.{◌≡◌, ℕ, ⊤, Bool, true, false, not, Option, Some, None}
+use Rattle.std.specs.Prelude.{◌≡◌, ⊤, Bool, true, false, not, Option, Some, None}
 use Rattle.mc_text.specs.Routes.{Route, parent_of}
 use Rattle.job_reports.specs.Paths.{folder_of}
 use Rattle.job_reports.specs.declared.report.Did.{Did}

@@ -95,13 +95,29 @@ pub record StandsInTheWay (s : FileSystem) (p : Places) (cause : Cause) (path : 
   pub of_target : Stands s p.target target
   pub meets : placing_at (Copied source.kind) (Some target.kind) ≡ placing.TargetKind at
 
--- the source is no file and no link, and nothing stands in its way at the target
+-- what stands at the target isn't told as in the way: it could be replaced, or a folder comes onto a folder
+abbrev pub IsNotInTheWay : Placing → Type 0
+IsNotInTheWay placing.SpecialSource = ⊤
+IsNotInTheWay placing.Merges = ⊤
+IsNotInTheWay placing.Asks = ⊥
+IsNotInTheWay placing.Free = ⊥
+IsNotInTheWay placing.Replaces = ⊥
+IsNotInTheWay (placing.TargetKind at) = ⊥
+
+-- nothing stands at the target of this thing, or nothing that goes before the trouble of the thing itself
+abbrev pub IsApart : FileSystem → Places → Meta → Type 0
+IsApart s p source = (refusal_of s (Stat p.target) ≡ Some refused.Missing)
+    ⊎ ((target : Meta) × Stands s p.target target
+    × IsNotInTheWay (placing_at (Copied source.kind) (Some target.kind)))
+
+-- the source is no file and no link, and nothing that goes before that stands at the target
 pub record IsNotCarried (s : FileSystem) (p : Places) (cause : Cause) (path : Option Route) : Type 0 where
   pub cause_is : cause ≡ why.SpecialSource
   pub path_is : path ≡ Some p.source
   pub source : Meta
   pub of_source : Stands s p.source source
   pub other : is_carried source.kind ≡ false
+  pub apart : IsApart s p source
 
 -- The trouble before a part is made, in their order: the look at the source was refused, or that at the
 -- target; what stands there is in the way; the source is no file and no link. Or there was no memory.

@@ -57,7 +57,15 @@ fn plant_mounts(page: &mut Page, tree: &mut MemTree, room: &str)
     ensures { tree.new.log.changes ≡ [] }
 {
     let room = room.parse().unwrap_or(u64::MAX);
+    mount(page, tree, room);
     put_folder(page, tree, "/m1", 0o755, 0);
+}
+
+fn mount(page: &mut Page, tree: &mut MemTree, room: u64)
+    requires unused { tree.old.log.changes ≡ [] }
+    requires few { length tree.old.log.opening.mounts < 1000 }
+    ensures { tree.new.log.changes ≡ [] }
+{
     let Ok(second) = Path::parse(page.alloc(), "/m2") else {
         return page.fail();
     };

@@ -1,5 +1,5 @@
 -- The looks have told what stands at source and target.
-use Rattle.std.proofs.Common.{◌≡◌, subst}
+use Rattle.std.proofs.Common.{subst}
 use Rattle.tree_trait.specs.Change.{current}
 use Rattle.copy_file.specs.Looking.{IsThere}
 use Rattle.carry_job.proofs.Judged.{judged, judged_peeks, judged_sound}

@@ -1,7 +1,6 @@
 -- Each stage is a function of its own.
-use Rattle.std.proofs.Common.{◌≡◌, ◌∙◌, true, ap, refl, subst}
-use Rattle.carry_job.specs.declared.stage.CarryStage.TheVariants.{Take, File, Link, SyncTarget, Remove, SyncSource, Finish, Settle, PassedOver}
-use Rattle.carry_job.specs.Carryings.{IsGoing}
+use Rattle.std.proofs.Common.{◌≡◌, true}
+use Rattle.carry_job.specs.declared.stage.CarryStage.TheVariants.{Take, File, Link, SyncTarget, Remove, SyncSource, Settle}
 use Rattle.carry_job.proofs.Stepping.{works_at}
 use Rattle.carry_job.proofs.working.work.Goals as goal
 

@@ -1,5 +1,5 @@
 -- The stage that was taken out is where the carrying stood.
-use Rattle.std.proofs.Common.{◌≡◌, ◌∙◌, ap, sym}
+use Rattle.std.proofs.Common.{◌∙◌, ap}
 use Rattle.carry_job.specs.Carryings.{Carrying, left_at}
 use Rattle.carry_job.proofs.Ending.{skips_from, skips_left}
 use Rattle.carry_job.proofs.carrying.ThingCarrying.skip.Goals as goal

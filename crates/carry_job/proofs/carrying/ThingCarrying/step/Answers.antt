@@ -1,7 +1,6 @@
 -- The stage that was taken out is where the carrying stood.
-use Rattle.std.proofs.Common.{◌≡◌, true, ap, sym, subst, ◌∙◌, None}
-use Rattle.carry_job.specs.Carryings.{Carrying, IsGoing, IsOwn, left_at}
-use Rattle.carry_job.proofs.Stepping.{going_left, going_own, own_going, step_from}
+use Rattle.std.proofs.Common.{◌≡◌, true}
+use Rattle.carry_job.proofs.Stepping.{going_left, step_from}
 use Rattle.carry_job.proofs.carrying.ThingCarrying.step.Goals as goal
 
 pub returns-clause-steps : goal.returns-clause-steps
