@@ -38,6 +38,7 @@ pub mod MovedAnswers
 pub mod MovedExample
 pub mod MovedFolderExample
 pub mod MovedThings
+pub mod NoOthers
 pub mod Outcome
 pub mod Owed
 pub mod RemovedThings

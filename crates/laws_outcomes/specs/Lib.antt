@@ -5,6 +5,7 @@ pub mod Begun
 pub mod Keeps
 pub mod KeepsFiles
 pub mod Others
+pub mod OthersLaw
 pub mod Outcomes
 pub mod OutcomeLaws
 pub mod PowerCut

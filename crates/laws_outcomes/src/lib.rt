@@ -2,6 +2,7 @@
 //! are laws of the definitions in `specs/`.
 #![tactic(auto)]
 
+ghost use Rattle.laws_outcomes.specs.OthersLaw.{NoOthersLaw};
 ghost use Rattle.laws_outcomes.specs.OutcomeLaws.{AllSourcesLaw, AnsweredLaw, KeepsLaw};
 ghost use Rattle.laws_outcomes.specs.OutcomeLaws.{KeptLaw, OutcomeLaw, UntouchedLaw};
 
@@ -18,6 +19,11 @@ pub fn what_a_finished_job_has_done()
 pub fn what_a_finished_job_left_alone()
     ensures untouched { UntouchedLaw }
     ensures kept { KeptLaw }
+{}
+
+/// While a job is at its source no other one names a path, as long as one is live at a time.
+pub fn what_others_name_meanwhile()
+    ensures { NoOthersLaw }
 {}
 
 /// What a copy or a move replaces, keeps or asks about at its target is as was answered to it. A folder

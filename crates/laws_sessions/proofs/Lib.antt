@@ -92,6 +92,7 @@ pub mod NameRuns
 pub mod NameSteps
 pub mod NameWaits
 pub mod Names
+pub mod OneLive
 pub mod OpenFolders
 pub mod OpenTargets
 pub mod OwedModes

@@ -1,6 +1,7 @@
 pub mod Calmed
 pub mod CalmedLaw
 pub mod Doubt
+pub mod OneLive
 pub mod Owed
 pub mod OwnPaths
 pub mod ApartFolders

@@ -3,6 +3,7 @@
 #![tactic(auto)]
 
 ghost use Rattle.laws_sessions.specs.CalmedLaw.{CalmLaw};
+ghost use Rattle.laws_sessions.specs.OneLive.{OneLiveLaw};
 ghost use Rattle.laws_sessions.specs.Owed.{FinishedLaw, FirstChangeLaw, OwedLaw, StepLaw};
 ghost use Rattle.laws_sessions.specs.SafeLaw.{ReplayLaw, SessionLaw};
 ghost use Rattle.laws_sessions.specs.StayingLaw.{DoneLaw, FinishedStaysLaw, StaysLaw};
@@ -38,6 +39,11 @@ pub fn what_a_first_change_leaves_in_doubt()
 /// report names.
 pub fn what_a_first_change_calms()
     ensures { CalmLaw }
+{}
+
+/// While a job is live no other one is, so no path is one that another live job named last.
+pub fn no_path_is_of_another()
+    ensures { OneLiveLaw }
 {}
 
 /// A job that may report that it is finished, and has changed something, has left nothing that isn't on the
