@@ -1,6 +1,6 @@
 -- Once a job has made its first change, nothing that an ended job changed is in doubt on its mount, nor
--- anything else but what that change names; in the words of the history alone. Histories stand newest first
--- here.
+-- anything else but what that change names, what another live job named last, and parts that were left; in
+-- the words of the history alone. Histories stand newest first here.
 use Rattle.std.specs.Prelude.{◌≡◌, ◌⊎◌, ℕ, Bool, true, false, ◌||◌, List, ◌∷◌, Some}
 use Rattle.mc_text.specs.Routes.{Route, same_path}
 use Rattle.tree_trait.specs.Change.{CallLog}

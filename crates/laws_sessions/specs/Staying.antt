@@ -1,21 +1,38 @@
 -- What is on the disk stays on the disk until an entry names it again; so what a finished job did stays
 -- done. Histories stand newest first here.
-use Rattle.std.specs.Prelude.{◌≡◌, ℕ, ◌+◌, true, false, List, ◌∷◌, length, Some}
+use Rattle.std.specs.Prelude.{◌≡◌, ℕ, ◌+◌, Bool, true, false, List, ◌∷◌, length, Some}
 use Rattle.mc_text.specs.Routes.{Route}
 use Rattle.tree_trait.specs.declared.file_system.FileSystem.{FileSystem}
 use Rattle.tree_trait.specs.FileSystem.{value_at}
 use Rattle.tree_trait.specs.Change.{CallLog}
-use Rattle.tree_trait.specs.CrashImages.{IsCrashImage}
+use Rattle.tree_trait.specs.CrashImages.{Among, IsCrashImage}
 use Rattle.session_entries.specs.declared.history.Entry.{Entry}
 use Rattle.job_reports.specs.Jobs.{ItemOfJob, Sets}
-use Rattle.laws_sessions.specs.Doubt.{IsMountInDoubt}
+use Rattle.laws_sessions.specs.Doubt.{IsMountInDoubt, name_waits, node_waits}
 use Rattle.laws_sessions.specs.OwnPaths.{IsOwnPath}
-use Rattle.session_entries.specs.LiveJobs.{live_jobs, live_item}
+use Rattle.session_entries.specs.LiveJobs.{IsLivePart, live_jobs, live_item}
 use Rattle.session_entries.specs.Sources.{IsDoneWith}
-use Rattle.session_entries.specs.Named.{has_changed, names_path, IsUnnamedSince}
+use Rattle.session_entries.specs.Named.{has_changed, named_parts, names_path, IsUnnamedSince}
 use Rattle.laws_sessions.specs.Replayed.{log_prefix, replayed_tree}
 use Rattle.session_entries.specs.Entries.{IsMoment, calls_in}
 use Rattle.laws_sessions.specs.Safe.{IsPart}
+
+-- What no change waits for where the older entries ended, none waits for at any later moment, inside a call
+-- too, until an entry names the path.
+abbrev pub Lasts : (CallLog → Route → Bool) → (List Entry → Route → Type 0)
+    → CallLog → CallLog → List Entry → Type 0
+Lasts waits excepted opening now newest = (older standing coming : List Entry) (calls : ℕ) (path : Route)
+    → IsMoment newest standing coming calls
+    → IsUnnamedSince older path standing → IsUnnamedSince older path coming
+    → waits (log_prefix opening (calls_in older) now) path ≡ false → (excepted older path → ⊥)
+    → waits (log_prefix opening calls now) path ≡ false
+
+-- what is on the disk stays there until an entry names the path again
+pub record StaysOnDisk (opening now : CallLog) (newest : List Entry) : Type 0 where
+  -- a name, of whatever job; but for the part of a live job
+  pub names : Lasts name_waits (λ older path. IsLivePart (live_jobs older) path) opening now newest
+  -- the bytes and the mode of what stands there; but for what was named as a part
+  pub modes : Lasts node_waits (λ older path. Among (named_parts older) path) opening now newest
 
 -- a mount in doubt is no matter of a job that changes names around it
 abbrev pub IsNoMatterOf : ItemOfJob → CallLog → Route → Type 0

@@ -36,7 +36,7 @@ pub fn what_a_first_change_leaves_in_doubt()
 
 /// The same in the words of the history alone: where a report of a job's first change for one of its
 /// sources stands, nothing that an ended job left on its mount is in doubt, nor anything else but what that
-/// report names.
+/// report names, what another live job named last, and parts that were left.
 pub fn what_a_first_change_calms()
     ensures { CalmLaw }
 {}

@@ -9,6 +9,7 @@ use Rattle.laws_sessions.specs.Traces.{IsTraced, IsTracedTo, at_rest}
 use Rattle.laws_sessions.proofs.Calmed.{calm_law}
 use Rattle.laws_sessions.proofs.Done.{done_law}
 use Rattle.laws_sessions.proofs.Histories.{traced_reached}
+use Rattle.laws_sessions.proofs.ModesStay.{stays_law}
 use Rattle.laws_sessions.proofs.Moments.{replay_law, session_law}
 use Rattle.laws_sessions.proofs.WholeMoments.{whole_law}
 use Rattle.laws_outcomes.proofs.AnswersLaw.{answered_law}
@@ -25,7 +26,7 @@ use Rattle.mc_desk.proofs.Terminals.{since_is}
 use Rattle.mc_main.specs.declared.session.SessionEnd.{SessionEnd}
 use Rattle.mc_main.specs.declared.session.SessionEnd.TheVariants.{Quit, KeysEnded}
 use Rattle.mc_main.proofs.Starting.{can_read}
-use Rattle.mc_main.specs.Headline.{IsCalmedRun, IsFinishedRun, IsKeepingRun, IsReplayedRun, IsSafeRun, IsWholeRun}
+use Rattle.mc_main.specs.Headline.{IsCalmedRun, IsFinishedRun, IsKeepingRun, IsReplayedRun, IsSafeRun, IsStayingRun, IsWholeRun}
 use Rattle.mc_main.specs.OutcomeRuns.{IsAnsweredRun, IsOutcomeRun}
 use Rattle.mc_main.specs.KeysRead.{IsCut, TookAll}
 use Rattle.mc_main.specs.SessionRuns.{ShowsRun, RanSession}
@@ -60,6 +61,17 @@ whole_to o contents newest traced opening o_is now is tree settled =
 pub finished_to : (o contents : Option CallLog) (newest : List Entry) → IsTracedTo o contents newest → IfKnown o (λ opening. IfKnown contents (λ now. IsFinishedRun opening now newest))
 finished_to o contents newest traced opening o_is now is tree settled =
     let t = told_trace o contents newest opening now o_is is traced in done_law opening now newest (at_rest t.0) tree settled t.1
+
+-- what is on the disk stays there
+pub stays_to : (o contents : Option CallLog) (newest : List Entry) → IsTracedTo o contents newest → IfKnown o (λ opening. IfKnown contents (λ now. IsStayingRun opening now newest))
+stays_to o contents newest traced opening o_is now is tree settled =
+    let t = told_trace o contents newest opening now o_is is traced in
+    record {
+      names = λ older standing coming calls path moment since later sure no_part.
+          stays_law.names opening now newest older standing coming (at_rest t.0) calls path tree settled t.1 moment since later sure no_part;
+      modes = λ older standing coming calls path moment since later sure other.
+          stays_law.modes opening now newest older standing coming (at_rest t.0) calls path tree settled t.1 moment since later sure other;
+    }
 
 -- and all that it was to do is done
 pub outcome_to : (o contents : Option CallLog) (newest : List Entry) → IsTracedTo o contents newest → IfKnown o (λ opening. IfKnown contents (λ now. IsOutcomeRun opening now newest))

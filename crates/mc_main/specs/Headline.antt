@@ -11,7 +11,7 @@ use Rattle.laws_sessions.specs.Calmed.{CalmsOthers}
 use Rattle.laws_sessions.specs.Replayed.{log_prefix, replayed_tree}
 use Rattle.session_entries.specs.Entries.{IsMoment}
 use Rattle.laws_sessions.specs.Safe.{IsSafe}
-use Rattle.laws_sessions.specs.Staying.{StaysDone}
+use Rattle.laws_sessions.specs.Staying.{StaysDone, StaysOnDisk}
 use Rattle.laws_sessions.specs.Whole.{LeavesWhole}
 use Rattle.laws_outcomes.specs.PowerCut.{KeepsAll}
 
@@ -42,6 +42,11 @@ IsWholeRun opening now newest = IsTree (current opening) → all_settled opening
 abbrev pub IsFinishedRun : CallLog → CallLog → List Entry → Type 0
 IsFinishedRun opening now newest = IsTree (current opening) → all_settled opening.changes ≡ true
     → StaysDone opening now newest
+
+-- what is on the disk stays there until an entry names it, whichever job brought it there
+abbrev pub IsStayingRun : CallLog → CallLog → List Entry → Type 0
+IsStayingRun opening now newest = IsTree (current opening) → all_settled opening.changes ≡ true
+    → StaysOnDisk opening now newest
 
 -- once a job has made its first change, nothing is in doubt on its mount but what that change names, and
 -- what another live job named last

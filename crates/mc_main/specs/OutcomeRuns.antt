@@ -11,10 +11,10 @@ use Rattle.laws_outcomes.specs.Outcomes.{IsOutcome, Leaves}
 use Rattle.laws_outcomes.specs.Untouched.{LeavesAlone}
 
 -- Where a job is done with one of its sources, all that it was to do with it is done, but for what it
--- passed over, and none of its reports changes what it doesn't touch for it, so that is as it was where the
--- job began with it, but for what another job named meanwhile; where it kept the file or the link at its
--- target, or merged a folder with the one there, so is all. What it did with one is still so at its end,
--- where no later one touches what concerns that.
+-- passed over, and none of its reports changes what it doesn't touch for it, but for the part that its end
+-- names, so that is as it was where the job began with it, but for what another job named meanwhile; where
+-- it kept the file or the link at its target, or merged a folder with the one there, so is all. What it did
+-- with one is still so at its end, where no later one touches what concerns that.
 pub record HasOutcomes (opening now : CallLog) (newest : List Entry) : Type 0 where
   pub done : Leaves IsOutcome opening now newest
   pub alone : LeavesAlone opening now newest

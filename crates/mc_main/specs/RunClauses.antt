@@ -12,7 +12,8 @@ use Rattle.main_words.specs.declared.words.Words.{Words}
 use Rattle.mc_main.specs.declared.words.Printed.TheVariants.{Usage}
 use Rattle.mc_main.specs.declared.words.Surroundings.{Surroundings}
 use Rattle.mc_main.specs.Beginnings.{printed_for, session_start, status_with, text_of}
-use Rattle.mc_main.specs.Headline.{IsSafeRun, IsFinishedRun, IsCalmedRun, IsReplayedRun, IsWholeRun}
+use Rattle.mc_main.specs.Headline.{IsSafeRun, IsFinishedRun, IsStayingRun, IsCalmedRun}
+use Rattle.mc_main.specs.Headline.{IsReplayedRun, IsWholeRun}
 use Rattle.mc_main.specs.OutcomeRuns.{IsAnsweredRun, IsOutcomeRun}
 use Rattle.mc_main.specs.Printed.{PrintsStart}
 use Rattle.mc_main.specs.StartRefusals.{IsComplete, MayRefuseStart, RefusesStart}
@@ -33,15 +34,19 @@ pub record KeepsTree (opening now : CallLog) (newest : List Entry) : Type 0 wher
   pub whole : IsWholeRun opening now newest
   -- What a job did for a source with which it is done stays done, at each later moment, until an entry names
   -- the path again, or one above it: at each path that the source touches, and at each that the job named as
-  -- a part; but for parts that still stand, and, unless it was the job's own, the mode of a folder at which
-  -- another mount begins.
+  -- a part; but for a part that still stood then, or whose last change wasn't on the disk, or that the end
+  -- names, and, unless it was the job's own, the mode of a folder at which another mount begins.
   pub finished : IsFinishedRun opening now newest
+  -- What is on the disk stays there, at each later moment, until an entry names the path again, whichever job
+  -- brought it there: a name, but for a live job's part, and the bytes and mode of what stands there, but for
+  -- what was named as a part.
+  pub stays : IsStayingRun opening now newest
   -- Where a job is done with one of its sources, all that it was to do with it is done, but for what it
   -- passed over: a copy stands of all that stands at the source, what was moved stands at its target, and not
   -- at its source, nothing stands that was to be removed, and what was to be made, or given a mode, is so.
   -- All else is as it was where the job began with it, but for what another job named meanwhile: no report
-  -- of the job changes it. So at its end all is done with all its sources, where no later one touches what
-  -- concerns an earlier one.
+  -- of the job changes it, but for the part that its end names. So at its end all is done with all its
+  -- sources, where no later one touches what concerns an earlier one.
   pub outcome : IsOutcomeRun opening now newest
   -- A job asks what is to become of a file or a link at the target of its copy or its move where no answer
   -- decides that, keeps it where one says so, and begins a part beside it, or moves something onto it, only

@@ -9,7 +9,7 @@ ghost use Rattle.mc_desk.specs.KeysAndFaults.{faults_in, has_lost};
 ghost use Rattle.mc_main.specs.Beginnings.{asked_in, printed_for, surroundings_in};
 ghost use Rattle.mc_main.specs.Beginnings.{start_in, status_with, text_of};
 ghost use Rattle.mc_main.specs.Headline.{IsSafeRun, IsFinishedRun, IsCalmedRun, IsKeepingRun};
-ghost use Rattle.mc_main.specs.Headline.{IsReplayedRun, IsWholeRun};
+ghost use Rattle.mc_main.specs.Headline.{IsReplayedRun, IsStayingRun, IsWholeRun};
 ghost use Rattle.mc_main.specs.Statuses.{IsStatusOr};
 ghost use Rattle.mc_main.specs.StartRefusals.{MayRefuseStart, RefusesStart, IsComplete};
 ghost use Rattle.mc_main.specs.SessionRuns.{IsRun, ShowsRun};
@@ -55,6 +55,8 @@ pub fn run_as_asked<N: Tag, T: Tree, K: Source, S: Sink, P: Spawner, C: Clock>(
         IsWholeRun opening now (reverse result.history.entries))) }
     ensures finished { IfKnown (T.contents tree) (λ opening. IfKnown (T.contents result.tree) (λ now.
         IsFinishedRun opening now (reverse result.history.entries))) }
+    ensures stays { IfKnown (T.contents tree) (λ opening. IfKnown (T.contents result.tree) (λ now.
+        IsStayingRun opening now (reverse result.history.entries))) }
     ensures outcome { IfKnown (T.contents tree) (λ opening. IfKnown (T.contents result.tree) (λ now.
         IsOutcomeRun opening now (reverse result.history.entries))) }
     ensures answered { IfKnown (T.contents tree) (λ opening. IfKnown (T.contents result.tree) (λ now.

@@ -10,7 +10,7 @@ use Rattle.mc_main.specs.KeysRead.{TookAll}
 use Rattle.mc_main.proofs.Printing.{at_most_five, begins_none, below_four, completes_none, not_at, print_is, prints_it, prints_not, prints_start, put_printed, put_start, refuses_none, session_is, some_prints_not, starts_in, status_few, text_given, usage_asked}
 use Rattle.mc_main.proofs.Starting.{completes, completes_by_five, may_refuse, refuses_by, refuses_listed}
 use Rattle.mc_main.proofs.Taking.{reads_none}
-use Rattle.mc_main.proofs.Runs.{none_counted, answered_to, calmed_to, finished_to, keeps_to, outcome_to, replayed_to, run_in, run_shows, shows_none, safe_to, traced_none, whole_to, refused_start}
+use Rattle.mc_main.proofs.Runs.{none_counted, answered_to, calmed_to, finished_to, keeps_to, outcome_to, stays_to, replayed_to, run_in, run_shows, shows_none, safe_to, traced_none, whole_to, refused_start}
 use Rattle.mc_main.proofs.as_asked.run_as_asked.Goals as goal
 
 pub returns-in-Ok-Print-clause-keeps : goal.returns-in-Ok-Print-clause-keeps
@@ -31,6 +31,9 @@ returns-in-Ok-Print-clause-safe g c = safe_to _ _ _ (traced_none _ _ (reverse c.
 
 pub returns-in-Ok-Print-clause-finished : goal.returns-in-Ok-Print-clause-finished
 returns-in-Ok-Print-clause-finished g c = finished_to _ _ _ (traced_none _ _ (reverse c.refuse.result.history.entries) (ap reverse c.refuse.ensures.empty) (ap g.T.ReadTree.contents c.refuse.ensures.tree))
+
+pub returns-in-Ok-Print-clause-stays : goal.returns-in-Ok-Print-clause-stays
+returns-in-Ok-Print-clause-stays g c = stays_to _ _ _ (traced_none _ _ (reverse c.refuse.result.history.entries) (ap reverse c.refuse.ensures.empty) (ap g.T.ReadTree.contents c.refuse.ensures.tree))
 
 pub returns-in-Ok-Print-clause-outcome : goal.returns-in-Ok-Print-clause-outcome
 returns-in-Ok-Print-clause-outcome g c = outcome_to _ _ _ (traced_none _ _ (reverse c.refuse.result.history.entries) (ap reverse c.refuse.ensures.empty) (ap g.T.ReadTree.contents c.refuse.ensures.tree))
@@ -55,6 +58,9 @@ returns-in-Err-clause-safe g c = safe_to _ _ _ (traced_none _ _ (reverse c.witho
 
 pub returns-in-Err-clause-finished : goal.returns-in-Err-clause-finished
 returns-in-Err-clause-finished g c = finished_to _ _ _ (traced_none _ _ (reverse c.without_session.result.history.entries) (ap reverse c.without_session.ensures.empty) (ap g.T.ReadTree.contents c.without_session.ensures.tree))
+
+pub returns-in-Err-clause-stays : goal.returns-in-Err-clause-stays
+returns-in-Err-clause-stays g c = stays_to _ _ _ (traced_none _ _ (reverse c.without_session.result.history.entries) (ap reverse c.without_session.ensures.empty) (ap g.T.ReadTree.contents c.without_session.ensures.tree))
 
 pub returns-in-Err-clause-outcome : goal.returns-in-Err-clause-outcome
 returns-in-Err-clause-outcome g c = outcome_to _ _ _ (traced_none _ _ (reverse c.without_session.result.history.entries) (ap reverse c.without_session.ensures.empty) (ap g.T.ReadTree.contents c.without_session.ensures.tree))
@@ -82,6 +88,10 @@ pub returns-in-Ok-clause-finished : goal.returns-in-Ok-clause-finished
 returns-in-Ok-clause-finished g c =
     finished_to _ _ _ (subst (λ o. IsTracedTo o (g.T.ReadTree.contents c.run_desk.result.tree) (reverse c.run_desk.result.history.entries)) (sym c.requires.opening) c.run_desk.ensures.traced)
 
+pub returns-in-Ok-clause-stays : goal.returns-in-Ok-clause-stays
+returns-in-Ok-clause-stays g c =
+    stays_to _ _ _ (subst (λ o. IsTracedTo o (g.T.ReadTree.contents c.run_desk.result.tree) (reverse c.run_desk.result.history.entries)) (sym c.requires.opening) c.run_desk.ensures.traced)
+
 pub returns-in-Ok-clause-outcome : goal.returns-in-Ok-clause-outcome
 returns-in-Ok-clause-outcome g c =
     outcome_to _ _ _ (subst (λ o. IsTracedTo o (g.T.ReadTree.contents c.run_desk.result.tree) (reverse c.run_desk.result.history.entries)) (sym c.requires.opening) c.run_desk.ensures.traced)
@@ -107,6 +117,9 @@ returns-clause-safe g c = safe_to _ _ _ (traced_none _ _ (reverse c.refuse_start
 
 pub returns-clause-finished : goal.returns-clause-finished
 returns-clause-finished g c = finished_to _ _ _ (traced_none _ _ (reverse c.refuse_start.result.history.entries) (ap reverse c.refuse_start.ensures.empty) (ap g.T.ReadTree.contents c.refuse_start.ensures.tree ∙ c.in-Err-begin.ensures.same))
+
+pub returns-clause-stays : goal.returns-clause-stays
+returns-clause-stays g c = stays_to _ _ _ (traced_none _ _ (reverse c.refuse_start.result.history.entries) (ap reverse c.refuse_start.ensures.empty) (ap g.T.ReadTree.contents c.refuse_start.ensures.tree ∙ c.in-Err-begin.ensures.same))
 
 pub returns-clause-outcome : goal.returns-clause-outcome
 returns-clause-outcome g c = outcome_to _ _ _ (traced_none _ _ (reverse c.refuse_start.result.history.entries) (ap reverse c.refuse_start.ensures.empty) (ap g.T.ReadTree.contents c.refuse_start.ensures.tree ∙ c.in-Err-begin.ensures.same))

@@ -6,6 +6,7 @@ returns-clause-tree g c opening opening_is now is = record {
   safe = c.run_as_asked.ensures.safe opening opening_is now is;
   whole = c.run_as_asked.ensures.whole opening opening_is now is;
   finished = c.run_as_asked.ensures.finished opening opening_is now is;
+  stays = c.run_as_asked.ensures.stays opening opening_is now is;
   outcome = c.run_as_asked.ensures.outcome opening opening_is now is;
   answered = c.run_as_asked.ensures.answered opening opening_is now is;
   calmed = c.run_as_asked.ensures.calmed opening opening_is now is;
