@@ -1,0 +1,2 @@
+mod QuestionLemmas
+mod RowLemmas

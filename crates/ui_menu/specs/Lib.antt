@@ -1,0 +1,9 @@
+pub mod Questions
+pub mod PromptStates
+pub mod Commands
+pub mod Prompting
+pub mod Beginnings
+pub mod MenuRows
+pub mod MenuStates
+pub mod MenuScreens
+pub mod MenuFrames
