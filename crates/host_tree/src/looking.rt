@@ -1,5 +1,5 @@
 //! The calls that tell what stands at a path.
-ghost use Rattle.std.specs.Prelude.{◌≡◌, ◌≤◌, ◌^◌, min, None, IfOk, bit_and};
+ghost use Rattle.std.specs.Prelude.{◌≡◌, ◌≤◌, ◌^◌, min, None, true, IfOk, bit_and};
 ghost use Rattle.std.specs.Fs.{metadata_len, metadata_mode};
 ghost use Rattle.host_tree.specs.Kept.{forgetting};
 ghost use Rattle.host_tree.specs.Kinds.{kind_of_mode};
@@ -76,7 +76,9 @@ fn mode_told(mode: u32, lends: bool) -> u16
 /// Whether the set-id bits of a thing are told: those of a stranger's aren't, so that no copy of it lends the
 /// rights of whoever copies. It is the program's own where it has the owner of the system's entry of this
 /// process, which is asked only where a thing has such bits.
-fn lends_rights<R: Files>(rt: &R, facts: &Metadata) -> bool {
+fn lends_rights<R: Files>(rt: &R, facts: &Metadata) -> bool
+    ensures { bit_and (metadata_mode facts.now) 0o6000 ≡ 0 → result ≡ true }
+{
     if facts.mode() & SET_ID_BITS == 0 {
         return true;
     }
