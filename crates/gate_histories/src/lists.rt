@@ -50,6 +50,24 @@ pub fn read_list(page: &mut Page, chance: &mut Chance, tally: &mut Tally, limit:
     }
 }
 
+/// Writes a list, and reads it back beside texts of which the newest is another one: from both ends one entry
+/// has to be found to be another.
+pub fn read_changed(page: &mut Page, chance: &mut Chance, tally: &mut Tally) {
+    match PackedEntries::new(page.alloc()) {
+        Ok(mut packed) => {
+            let mut written = write_entries(page, chance, &mut packed, 30);
+            let _newest = written.pop();
+            match String::from_str(page.alloc(), "another") {
+                Ok(another) => page.need(written.push(another).is_ok()),
+                Err(_error) => page.fail(),
+            }
+            read_up(page, tally, &packed, written.as_slice());
+            read_back(page, tally, &packed, written.as_slice());
+        }
+        Err(_error) => page.fail(),
+    }
+}
+
 /// Packs entries, and tells of each what it was.
 fn write_entries(
     page: &mut Page,

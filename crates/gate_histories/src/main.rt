@@ -8,7 +8,7 @@ mod steps;
 mod texts;
 
 use crate::chance::Chance;
-use crate::lists::{Tally, read_list};
+use crate::lists::{Tally, read_changed, read_list};
 use rows_page::{Fault, Page, print_page};
 
 fn main(rt: HostRuntime) -> Result<(), Fault> {
@@ -17,7 +17,18 @@ fn main(rt: HostRuntime) -> Result<(), Fault> {
     tell_lists(&mut page, &mut chance, 9_900, 30);
     tell_lists(&mut page, &mut chance, 90, 600);
     tell_lists(&mut page, &mut chance, 10, 9_000);
+    tell_changed(&mut page, &mut chance);
     print_page(&rt, &page)
+}
+
+/// That an entry which is another one than was written is found, read up and read back.
+fn tell_changed(page: &mut Page, chance: &mut Chance) {
+    let mut tally = Tally::new();
+    read_changed(page, chance, &mut tally);
+    let others = tally.others;
+    page.tell(format_args!(
+        "a list beside a text that is changed: {others} are read back as others\n"
+    ));
 }
 
 /// So many lists of fewer entries than this, and how many of those that were read are others.
