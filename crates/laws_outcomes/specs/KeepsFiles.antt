@@ -24,7 +24,7 @@ pub record IsPromised (log : CallLog) (begun : List Entry) (path : Route) : Type
   pub on_disk : is_unsettled log path ≡ false
   pub no_part : IsPartAt begun path → ⊥
 
--- Since then no step at another source named it; and where nothing stood it was never a part.
+-- No step named it since another source was taken up; and where nothing stood it was never a part.
 pub record IsLeft (log : CallLog) (begun standing coming : List Entry) (path : Route) : Type 0 where
   pub firm : IsPromised log begun path
   pub since : LastsSince begun (λ what. names_path what path) standing

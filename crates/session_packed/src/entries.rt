@@ -74,8 +74,8 @@ impl PackedEntries {
         self.count
     }
 
-    /// Makes room for this many more. It is refused only where the room isn't there yet: for want of memory, or
-    /// since there would be more than 2^56 entries.
+    /// Makes room for this many more. Room that is there already is never refused; there is none where there
+    /// would be more than 2^56 entries.
     pub fn reserve(&mut self, count: usize) -> Result<(), NoMemory>
         ensures same { self.new.newest ≡ self.old.newest }
         ensures room { OnOk result (count ≤ self.new.spare) }
