@@ -153,8 +153,11 @@ module _ (opening : CallLog) (tree : IsTree (current opening)) (settled : all_se
       | inl lives ↦
           let same : number ≡ id = sym l_is ∙ one_id l id lives.0 (subst (λ js. live_item id js ≡ Some lives.0) is lives.1) in
           let on = turned l number l_is o in
-          inl (on.0, subst (λ n. live_item n (option_map_or (λ i. map (turned_live_job number i) (live_jobs older)) o (live_jobs older)) ≡ Some on.0) same
-          (subst (λ js. live_item number (option_map_or (λ i. map (turned_live_job number i) js) o js) ≡ Some on.0) (sym is) on.1))
+          inl (
+            on.0,
+            subst (λ n. live_item n (option_map_or (λ i. map (turned_live_job number i) (live_jobs older)) o (live_jobs older)) ≡ Some on.0) same
+                (subst (λ js. live_item number (option_map_or (λ i. map (turned_live_job number i) js) o js) ≡ Some on.0) (sym is) on.1),
+          )
       | inr over ↦ inr over
     ]
 
