@@ -20,7 +20,7 @@ use Rattle.session_entries.specs.declared.history.Event.TheVariants as event
 use Rattle.session_entries.specs.declared.history.Entry.{Entry}
 use Rattle.session_entries.specs.LiveJobs.{LiveJob, after_event, after_report, live_item, live_jobs}
 use Rattle.session_entries.specs.Moves.{is_of_move, paths_moved}
-use Rattle.session_entries.specs.Named.{IsUnnamedSince, left_after, left_parts, named_after, named_parts, names, names_path}
+use Rattle.session_entries.specs.Named.{IsUnnamedSince, is_part_of_other, left_after, left_parts, live_parts, named_after, named_parts, names, names_path}
 use Rattle.laws_outcomes.specs.Touched.{IsAtSince, IsPartAt, LastsSince, WasPart, touches}
 use Rattle.copy_tree.specs.InPlace.{IsMoved}
 use Rattle.copy_move.specs.Jobs.{Running}
@@ -308,7 +308,7 @@ module _ (opening : CallLog) (tree : IsTree (current opening)) (settled : all_se
     off_unnamed e g unnamed (inr (some, off)) = inr (
       some,
       λ part. elim part [
-        | inl named ↦ off (inl (named_event e.what (left_parts g) (named_parts g) path unnamed named))
+        | inl named ↦ off (inl (named_event e.what (live_parts g) (left_parts g) (named_parts g) path unnamed named))
         | inr left ↦ off (inr (left_event e.what (left_parts g) path unnamed left))
       ],
     )
@@ -373,7 +373,7 @@ module _ (opening : CallLog) (tree : IsTree (current opening)) (settled : all_se
 
           no_part : IsOff g → (at.part ≡ Some path) ⊎ (did ≡ Began path) → ⊥
           no_part (inl none) (inl stands) = never none (inr (was_named g (at.named path stands)))
-          no_part (inl none) (inr begins) = never none (inl (subst (λ w. Among (named_after w (left_parts g) (named_parts g)) path) (sym (is ∙ ap (Step id) begins)) (inl refl)))
+          no_part (inl none) (inr begins) = never none (inl (subst (λ w. Among (named_after w (live_parts g) (left_parts g) (named_parts g)) path) (sym (is ∙ ap (Step id) begins)) (inl refl)))
           no_part (inr (some, none)) (inl stands) = none (inl (at.named path stands))
           no_part (inr (some, none)) (inr begins) = not_begun some begins
 
@@ -395,10 +395,10 @@ module _ (opening : CallLog) (tree : IsTree (current opening)) (settled : all_se
           off_then (inl none) = inl none
           off_then (inr (some, none)) = inr (
             some,
-            λ part. apart_then did path (left_parts g) (named_parts g) change
+            λ part. apart_then did path (is_part_of_other id (live_parts g)) (left_parts g) (named_parts g) change
                 (λ pair moves. made.carries e g id pair first (is ∙ ap (Step id) moves) since (subst (λ d. AtStep e g id d) moves at) (subst (λ (d : Did). (a : AtStep e g id d) → Its a.item) moves (λ a. at_source e g id did since a) (subst (λ d. AtStep e g id d) moves at))
                 (subst (λ d. IsChanged d path) moves change) some (shown_of g known))
-                none (subst (λ w. Among (named_after w (left_parts g) (named_parts g)) path ⊎ Among (left_after w (left_parts g)) path) is part),
+                none (subst (λ w. Among (named_after w (live_parts g) (left_parts g) (named_parts g)) path ⊎ Among (left_after w (left_parts g)) path) is part),
           )
 
           pub both_then : Known (e ∷ g) × IsOff (e ∷ g)

@@ -17,7 +17,7 @@ use Rattle.session_entries.specs.declared.history.Event.TheVariants as event
 use Rattle.session_entries.specs.declared.history.Entry.{Entry}
 use Rattle.session_entries.specs.LiveJobs.{live_jobs}
 use Rattle.session_entries.specs.Moves.{moved_from}
-use Rattle.session_entries.specs.Named.{IsUnnamedSince, begins_change, left_parts, named_parts, names, names_path}
+use Rattle.session_entries.specs.Named.{IsUnnamedSince, begins_change, left_parts, live_parts, named_parts, names, names_path}
 use Rattle.laws_outcomes.specs.Touched.{IsAtSince, LastsSince, taken_by}
 use Rattle.laws_sessions.specs.Replayed.{log_prefix, moved_by, nothing_there, replayed_step, replayed_tree}
 use Rattle.laws_sessions.specs.Traces.{IsTraced}
@@ -91,7 +91,7 @@ takes_names Closed item is = absurd (let f : ⊥ = cc in f)
 pub named_since : (begun g : List Entry) (path : Route) → IsUnnamedSince begun path g → Among (named_parts g) path → Among (named_parts begun) path
 named_since begun [] path same among = subst (λ xs. Among (named_parts xs) path) (sym same) among
 named_since begun (e ∷ g) path (inl same) among = subst (λ xs. Among (named_parts xs) path) (sym same) among
-named_since begun (e ∷ g) path (inr (unnamed, since)) among = named_since begun g path since (named_event e.what (left_parts g) (named_parts g) path unnamed among)
+named_since begun (e ∷ g) path (inr (unnamed, since)) among = named_since begun g path since (named_event e.what (live_parts g) (left_parts g) (named_parts g) path unnamed among)
 
 pub left_since : (begun g : List Entry) (path : Route) → IsUnnamedSince begun path g → Among (left_parts g) path → Among (left_parts begun) path
 left_since begun [] path same among = subst (λ xs. Among (left_parts xs) path) (sym same) among

@@ -1,5 +1,5 @@
 -- The same in the words of the history alone: the entry that reports a job's first change is such a step.
-use Rattle.std.proofs.Common.{◌≡◌, ◌⊎◌, Bool, true, false, not, List, [], ◌∷◌, refl, sym, ◌∙◌, ap, subst, inl, inr, Option, Some, None, arith, append-nil}
+use Rattle.std.proofs.Common.{◌≡◌, ◌⊎◌, ℕ, Bool, true, false, not, List, [], ◌∷◌, refl, sym, ◌∙◌, ap, subst, inl, inr, Option, Some, None, arith, append-nil}
 use Rattle.std.proofs.lemmas.Bool.{false≢true, true≢false}
 use Rattle.mc_text.specs.Routes.{Route}
 use Rattle.tree_trait.specs.Shape.{IsTree}
@@ -33,7 +33,7 @@ use Rattle.laws_sessions.specs.CalmedLaw.{CalmLaw}
 use Rattle.laws_sessions.specs.Doubt.{name_waits, node_waits}
 use Rattle.session_entries.specs.LiveJobs.{live_jobs, live_item}
 use Rattle.laws_sessions.specs.ApartFolders.{IsApart}
-use Rattle.session_entries.specs.Named.{begins_change, has_changed, left_parts, named_after, named_by, named_parts}
+use Rattle.session_entries.specs.Named.{begins_change, has_changed, is_part_of_other, left_parts, live_parts, named_after, named_by, named_parts}
 use Rattle.laws_sessions.specs.Replayed.{log_prefix}
 use Rattle.session_entries.specs.Entries.{IsMoment, calls_in}
 use Rattle.laws_sessions.specs.Traces.{EventLeads, IsTraced, Stand, StepLeads, WorkLeads}
@@ -107,6 +107,7 @@ module _ (opening : CallLog) (tree : IsTree (current opening)) (settled : all_se
   record Begins : Type 0 where
     pub job : Running
     pub new : Running
+    pub id_is : job.id ≡ h.id
     pub jobs_is : f.was.jobs ≡ job ∷ []
     pub works : WorkLeads job h.did new f.was.dirty f.after.dirty f.before f.now
     pub goes : job.course ≡ GoesOn
@@ -117,6 +118,7 @@ module _ (opening : CallLog) (tree : IsTree (current opening)) (settled : all_se
   of_works job new jobs_is id_is works = record {
     job = job;
     new = new;
+    id_is = id_is;
     jobs_is = jobs_is;
     works = works;
     goes = goes.0;
@@ -165,9 +167,10 @@ module _ (opening : CallLog) (tree : IsTree (current opening)) (settled : all_se
       → (changes_thing h.did path ≡ true) ⊎ (Among (named_parts (e ∷ older)) path ⊎ ((node_waits f.before path ≡ true) × IsApart f.before folder path))
   modes_then path unnamed waits =
       let b = begins in
-      subst (λ what. (changes_thing h.did path ≡ true) ⊎ (Among (named_after what (left_parts older) (named_parts older)) path ⊎ ((node_waits f.before path ≡ true) × IsApart f.before folder path))) (sym h.reports)
-      (subst (λ (p : Route). (changes_thing h.did path ≡ true) ⊎ (Among (named_by h.did (left_parts older) (named_parts older)) path ⊎ ((node_waits f.before path ≡ true) × IsApart f.before p path))) (sym b.folder_is)
-      (modes_calm opening f.before f.now older f.was f.after.dirty b.job b.new h.did tree settled f.traced b.jobs_is b.works b.goes b.fresh path unnamed waits))
+      subst (λ what. (changes_thing h.did path ≡ true) ⊎ (Among (named_after what (live_parts older) (left_parts older) (named_parts older)) path ⊎ ((node_waits f.before path ≡ true) × IsApart f.before folder path))) (sym h.reports)
+      (subst (λ (p : Route). (changes_thing h.did path ≡ true) ⊎ (Among (named_by h.did (is_part_of_other h.id (live_parts older)) (left_parts older) (named_parts older)) path ⊎ ((node_waits f.before path ≡ true) × IsApart f.before p path))) (sym b.folder_is)
+      (subst (λ (n : ℕ). (changes_thing h.did path ≡ true) ⊎ (Among (named_by h.did (is_part_of_other n (live_parts older)) (left_parts older) (named_parts older)) path ⊎ ((node_waits f.before path ≡ true) × IsApart f.before (changed_folder (let j : Running = b.job in j.work)) path))) b.id_is
+      (modes_calm opening f.before f.now older f.was f.after.dirty b.job b.new h.did tree settled f.traced b.jobs_is b.works b.goes b.fresh path unnamed waits)))
 
 module _ (opening now : CallLog) (newest : List Entry) (stand : Stand) (tree : IsTree (current opening)) (settled : all_settled opening.changes ≡ true) (traced : IsTraced opening newest stand now)
     (e : Entry) (older : List Entry) (folder path : Route) (h : HasBegun e older folder) (moment : IsMoment newest (e ∷ older) (e ∷ older) e.calls) where

@@ -19,7 +19,7 @@ use Rattle.laws_sessions.specs.Doubt.{is_unsettled}
 use Rattle.laws_sessions.specs.OwnPaths.{IsOwnPath}
 use Rattle.session_entries.specs.LiveJobs.{live_item, live_jobs}
 use Rattle.session_entries.specs.Sources.{IsDoneWith}
-use Rattle.session_entries.specs.Named.{has_changed, named_after, named_parts, IsUnnamedSince, names_path}
+use Rattle.session_entries.specs.Named.{has_changed, left_parts, live_parts, named_after, named_parts, IsUnnamedSince, names_path}
 use Rattle.laws_sessions.specs.Replayed.{log_prefix, replayed_tree}
 use Rattle.session_entries.specs.Entries.{IsMoment, calls_in}
 use Rattle.laws_sessions.specs.Safe.{IsPart}
@@ -192,8 +192,8 @@ module _ (opening now : CallLog) (newest : List Entry) (stand : Stand) (tree : I
 
   still_named : Among (named_parts older) path → Among (named_parts (e ∷ older)) path
   still_named named = elim (done_with h.id e.what h.ended) [
-    | inl turns ↦ subst (λ w. Among (named_after w (Rattle.session_entries.specs.Named.left_parts older) (named_parts older)) path) (sym turns.1) named
-    | inr ends ↦ subst (λ w. Among (named_after w (Rattle.session_entries.specs.Named.left_parts older) (named_parts older)) path) (sym ends.1) named
+    | inl turns ↦ subst (λ w. Among (named_after w (live_parts older) (left_parts older) (named_parts older)) path) (sym turns.1) named
+    | inr ends ↦ subst (λ w. Among (named_after w (live_parts older) (left_parts older) (named_parts older)) path) (sym ends.1) named
   ]
 
   by_part : (IsPart (e ∷ older) at_end path → ⊥) → (stands waits : Bool) → is_some (find (current at_end) path) ≡ stands → is_unsettled at_end path ≡ waits → Holds

@@ -29,9 +29,10 @@ use Rattle.laws_sessions.proofs.ModesStay.{event_still as mode_still}
 use Rattle.laws_sessions.proofs.Owing.{apart_from, owed_apart, owed_modes, owed_names}
 use Rattle.laws_sessions.proofs.TreeKnown.{ItemHas, TreeKnown, is_over}
 use Rattle.laws_sessions.proofs.Staying.{doubting, event_still, kept_doubting, unsaid, work_doubting}
+use Rattle.laws_sessions.proofs.StillParts.{named_more}
 use Rattle.laws_sessions.proofs.Stepped.{StepRan, said_after}
 use Rattle.copy_move.specs.Jobs.{Running, is_fresh}
-use Rattle.session_entries.specs.Named.{left_parts, named_by, named_parts, names}
+use Rattle.session_entries.specs.Named.{is_part_of_other, left_parts, live_parts, named_by, named_parts, names}
 use Rattle.laws_sessions.specs.Calmed.{changes_name, changes_thing}
 use Rattle.laws_sessions.proofs.Reports.{JobsKnow}
 use Rattle.laws_sessions.specs.Owed.{FirstChangeLaw, IsOwed}
@@ -97,6 +98,10 @@ module _ (opening log now : CallLog) (older : List Entry) (was : Stand) (dirty_a
   no_part : r.part ≡ None
   no_part = fresh_none told was.dirty r.marks log job.course (ap is_over goes) job.work fresh knows
 
+  -- the paths that other live jobs named as parts
+  abbrev others : Route → Bool
+  others = is_part_of_other job.id (live_parts older)
+
   -- as an event
   abbrev after : Stand
   after = record { jobs = with_job job.id (unless_ended did new) was.jobs; dirty = dirty_after }
@@ -132,10 +137,11 @@ module _ (opening log now : CallLog) (older : List Entry) (was : Stand) (dirty_a
     moved_names : (path : Route) → name_waits log path ≡ false → (same_path path pair.source || same_path path pair.target) ≡ false → name_waits now path ≡ false
     moved_names path sure off = (let c = come in unsaid _ path (neither_is (name_waits log path) _ sure off) dirty_after c.marks now c.kept)
 
-    moved_modes : (path : Route) → node_waits log path ≡ false → node_waits now path ≡ true → Among (named_by did (left_parts older) (named_parts older)) path
+    moved_modes : (path : Route) → node_waits log path ≡ false → node_waits now path ≡ true → Among (named_by did others (left_parts older) (named_parts older)) path
     moved_modes path sure waits =
         let c = come in
-        subst (λ d. Among (named_by d (left_parts older) (named_parts older)) path) (sym did_is) (part_waits _ path sure dirty_after c.marks now c.kept waits)
+        subst (λ d. Among (named_by d others (left_parts older) (named_parts older)) path) (sym did_is)
+        (named_more (Moved pair) others (left_parts older) (named_parts older) path (part_waits _ path sure dirty_after c.marks now c.kept waits))
 
   pub names_calm : (path : Route) → name_waits now path ≡ true → (changes_name did path ≡ true) ⊎ ((name_waits log path ≡ true) × IsApart log (changed_folder job.work) (folder_of path))
   names_calm path waits = by (name_waits log path) refl
@@ -155,10 +161,11 @@ module _ (opening log now : CallLog) (older : List Entry) (was : Stand) (dirty_a
       by false sure = of_did (changes_name did path) refl sure
 
   abbrev ModeThen : Route → Type 0
-  ModeThen path = (changes_thing did path ≡ true) ⊎ (Among (named_by did (left_parts older) (named_parts older)) path ⊎ ((node_waits log path ≡ true) × IsApart log (changed_folder job.work) path))
+  ModeThen path = (changes_thing did path ≡ true) ⊎ (Among (named_by did others (left_parts older) (named_parts older)) path ⊎ ((node_waits log path ≡ true) × IsApart log (changed_folder job.work) path))
 
   pub modes_calm : (path : Route) → (Among (named_parts older) path → ⊥) → node_waits now path ≡ true
-      → (changes_thing did path ≡ true) ⊎ (Among (named_by did (left_parts older) (named_parts older)) path ⊎ ((node_waits log path ≡ true) × IsApart log (changed_folder job.work) path))
+      → (changes_thing did path ≡ true)
+      ⊎ (Among (named_by did (is_part_of_other job.id (live_parts older)) (left_parts older) (named_parts older)) path ⊎ ((node_waits log path ≡ true) × IsApart log (changed_folder job.work) path))
   modes_calm path unnamed waits = by (node_waits log path) refl
     where
       of_named : IsAsNamed did → node_waits log path ≡ false → (b : Bool) → names did path ≡ b → ModeThen path

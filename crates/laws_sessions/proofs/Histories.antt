@@ -7,7 +7,7 @@ use Rattle.std.proofs.Math.Seq.{take-length}
 use Rattle.mc_text.specs.Routes.{Route}
 use Rattle.tree_trait.specs.Shape.{IsTree}
 use Rattle.tree_trait.specs.Change.{Change, CallLog, current}
-use Rattle.tree_trait.specs.CrashImages.{all_settled}
+use Rattle.tree_trait.specs.CrashImages.{Among, all_settled}
 use Rattle.laws_crash.specs.Guarded.{Marks}
 use Rattle.laws_crash.specs.NameKnowledge.{as_it_stands}
 use Rattle.laws_crash.proofs.Others.{opening_law}
@@ -26,16 +26,19 @@ use Rattle.session_entries.specs.declared.history.Entry.{Entry}
 use Rattle.copy_move.specs.Jobs.{Running}
 use Rattle.session_entries.specs.Entries.{is_closed}
 use Rattle.session_entries.specs.LiveJobs.{after_event, live_jobs, live_item}
+use Rattle.session_entries.specs.Named.{is_part_of_other, left_by, left_parts, live_parts, named_by, named_parts}
 use Rattle.laws_sessions.specs.Replayed.{earlier_tree, log_prefix, replayed_event, replayed_step, replayed_tree}
 use Rattle.laws_sessions.specs.Traces.{EventLeads, Follows, IsTraced, Stand, if_closed}
 use Rattle.laws_sessions.proofs.Prefixes.{AreWithin, calm_event, calm_told, earlier_more, folders_event, folders_told, replayed_more, said_by, told_more, told_of, told_with, within_more}
 use Rattle.laws_sessions.proofs.Going.{Goes, closed_know, closed_live, event_goes}
 use Rattle.laws_sessions.proofs.Knowing.{HistoryFacts, IsKept, anywhere}
+use Rattle.laws_sessions.proofs.NamedMore.{jobs_naming, kept_naming, naming}
 use Rattle.laws_sessions.proofs.Pending.{pending_settled}
 use Rattle.laws_sessions.proofs.WaitsFor.{joint_settled, restless_settled}
 use Rattle.laws_sessions.proofs.Reports.{HasLive, JobsKnow}
 use Rattle.laws_sessions.proofs.Sources.{item_in}
-use Rattle.laws_sessions.proofs.Stepped.{AreMids, calm_by, doubt_by, folders_by, modes_by, more, part_after, said_after}
+use Rattle.laws_sessions.proofs.StillParts.{named_more}
+use Rattle.laws_sessions.proofs.Stepped.{AreMids, calm_by, doubt_by, folders_by, modes_by, more, no_other, part_after, said_after}
 
 -- what holds after these entries
 pub record IsReached (opening : CallLog) (g : List Entry) (stand : Stand) (now : CallLog) : Type 0 where
@@ -142,23 +145,44 @@ module _ (opening : CallLog) (older : List Entry) (calls : ℕ) (was : Stand) (b
         ap (λ l. replayed_step l did (live_item id (live_jobs older)) (replayed_tree opening now older)) at_end
         ∙ (ap (λ w. replayed_step now did w (replayed_tree opening now older)) item_is ∙ ap (replayed_step now did (Some (item_in job.work))) tree)
 
-    -- what the history says then is what the step comes to
-    told_is : (made : List Change) → now ≡ more before made → told_with opening now older calls (Step id did) (part_after did r.part) ≡ said_after now did job.work told
+    -- what the history says then, and what it says where no other job named a part
+    abbrev then_told : HistoryFacts
+    then_told = told_with opening now older calls (Step id did) (part_after did r.part)
+
+    abbrev alone_told : HistoryFacts
+    alone_told = naming (named_by did no_other (left_parts older) (named_parts older)) then_told
+
+    -- that is what the step comes to
+    told_is : (made : List Change) → now ≡ more before made → alone_told ≡ said_after now did job.work told
     told_is made now_is =
         let tree : replayed_tree opening now older ≡ replayed_tree opening before older = ap (λ l. replayed_tree opening l older) now_is ∙ replayed_more opening before made older r.within in
         let earlier : earlier_tree opening now older ≡ earlier_tree opening before older = ap (λ l. earlier_tree opening l older) now_is ∙ earlier_more opening before made older r.within in
-        ap (λ t. said_by (folders_event (Step id did) (live_jobs older) (folders_told opening older)) (calm_event (Step id did) (live_jobs older) (calm_told older)) t (Rattle.laws_sessions.specs.Replayed.earlier_step did (replayed_tree opening now older) (earlier_tree opening now older)) (Rattle.session_entries.specs.Named.named_by did (Rattle.session_entries.specs.Named.left_parts older) (Rattle.session_entries.specs.Named.named_parts older)) (Rattle.session_entries.specs.Named.left_by did (Rattle.session_entries.specs.Named.left_parts older)) (part_after did r.part))
+        ap (λ t. said_by (folders_event (Step id did) (live_jobs older) (folders_told opening older)) (calm_event (Step id did) (live_jobs older) (calm_told older)) t (Rattle.laws_sessions.specs.Replayed.earlier_step did (replayed_tree opening now older) (earlier_tree opening now older)) (named_by did no_other (left_parts older) (named_parts older)) (left_by did (left_parts older)) (part_after did r.part))
         (step_view made now_is)
-        ∙ ap (λ t. said_by (folders_event (Step id did) (live_jobs older) (folders_told opening older)) (calm_event (Step id did) (live_jobs older) (calm_told older)) (replayed_step now did (Some (item_in job.work)) (replayed_tree opening before older)) t (Rattle.session_entries.specs.Named.named_by did (Rattle.session_entries.specs.Named.left_parts older) (Rattle.session_entries.specs.Named.named_parts older)) (Rattle.session_entries.specs.Named.left_by did (Rattle.session_entries.specs.Named.left_parts older)) (part_after did r.part))
+        ∙ ap (λ t. said_by (folders_event (Step id did) (live_jobs older) (folders_told opening older)) (calm_event (Step id did) (live_jobs older) (calm_told older)) (replayed_step now did (Some (item_in job.work)) (replayed_tree opening before older)) t (named_by did no_other (left_parts older) (named_parts older)) (left_by did (left_parts older)) (part_after did r.part))
         (ap (λ v. Rattle.laws_sessions.specs.Replayed.earlier_step did v (earlier_tree opening now older)) tree
         ∙ ap (Rattle.laws_sessions.specs.Replayed.earlier_step did (replayed_tree opening before older)) earlier)
-        ∙ (ap (λ o. said_by (option_map_or (λ item. folders_by did (folder_changed item) (folders_told opening older)) o (folders_told opening older)) (option_map_or (λ item. calm_by did item (calm_told older)) o (calm_told older)) (replayed_step now did (Some (item_in job.work)) (replayed_tree opening before older)) (Rattle.laws_sessions.specs.Replayed.earlier_step did (replayed_tree opening before older) (earlier_tree opening before older)) (Rattle.session_entries.specs.Named.named_by did (Rattle.session_entries.specs.Named.left_parts older) (Rattle.session_entries.specs.Named.named_parts older)) (Rattle.session_entries.specs.Named.left_by did (Rattle.session_entries.specs.Named.left_parts older)) (part_after did r.part)) item_is
+        ∙ (ap (λ o. said_by (option_map_or (λ item. folders_by did (folder_changed item) (folders_told opening older)) o (folders_told opening older)) (option_map_or (λ item. calm_by did item (calm_told older)) o (calm_told older)) (replayed_step now did (Some (item_in job.work)) (replayed_tree opening before older)) (Rattle.laws_sessions.specs.Replayed.earlier_step did (replayed_tree opening before older) (earlier_tree opening before older)) (named_by did no_other (left_parts older) (named_parts older)) (left_by did (left_parts older)) (part_after did r.part)) item_is
         ∙ (ap (λ d. (let t : HistoryFacts = record (said_after now did job.work told) { doubt = d; modes = anywhere } in t)) (sym (doubt_anywhere did r.part))
         ∙ ap (λ m. (let t : HistoryFacts = record (said_after now did job.work told) { modes = m } in t)) (sym (modes_anywhere did))))
 
     stepped : (after : Stand) (n : Led (Step id did) after now) → (let x : Led (Step id did) after now = n in x.said_then) ≡ said_after now did job.work told → Entered (Step id did) after now
-    stepped after n then_is =
-        entered (Step id did) after now (part_after did r.part) n (sym (ap (λ (s : HistoryFacts). s.part) then_is)) (told_is n.made n.now_is ∙ sym then_is)
+    stepped after n then_is = record {
+      made = n.made;
+      now_is = n.now_is;
+      mids = n.mids;
+      part = part_after did r.part;
+      marks = n.marks_then;
+      kept = kept_naming alone_told then_told.named more_named after.dirty n.marks_then now (subst (λ t. IsKept t after.dirty n.marks_then now) (sym same) n.kept_then);
+      knows = jobs_naming alone_told then_told.named after.dirty n.marks_then now after.jobs (subst (λ t. JobsKnow t after.dirty n.marks_then now after.jobs) (sym same) n.knows_then);
+      live = subst (λ p. HasLive (after_event (Step id did) (live_jobs older)) after.jobs p) (ap (λ (s : HistoryFacts). s.part) then_is) n.live_then;
+    }
+      where
+        same : alone_told ≡ (let x : Led (Step id did) after now = n in x.said_then)
+        same = told_is n.made n.now_is ∙ sym then_is
+
+        more_named : (p : Route) → Among (named_by did no_other (left_parts older) (named_parts older)) p → Among (named_by did (is_part_of_other id (live_parts older)) (left_parts older) (named_parts older)) p
+        more_named p among = named_more did (is_part_of_other id (live_parts older)) (left_parts older) (named_parts older) p among
 
   -- a job goes on with its next source
   turns : (now : CallLog) (id : ℕ) (plan : Job) (job : Running) (after : Stand) (n : Led (Next id plan) after now) → (let x : Led (Next id plan) after now = n in x.said_then) ≡ said_after now (Ended Finished None) job.work told

@@ -38,7 +38,7 @@ use Rattle.laws_sessions.proofs.Moments.{log_of, prefix_cut, prefix_is, traced_c
 use Rattle.laws_sessions.proofs.Prefixes.{replayed_more, told_more, told_of}
 use Rattle.laws_sessions.proofs.Reports.{HasLive, JobsKnow}
 use Rattle.laws_sessions.proofs.Staying.{since_longer}
-use Rattle.laws_sessions.proofs.Stepped.{AreMids, cut, mid_at, more}
+use Rattle.laws_sessions.proofs.Stepped.{AreMids, cut, mid_at, more, no_other}
 use Rattle.laws_sessions.proofs.Unnamed.{earlier_unnamed, named_step, step_unnamed}
 
 neither : (a b : Bool) → (a || b) ≡ false → (a ≡ false) × (b ≡ false)
@@ -161,7 +161,7 @@ module _ (listed : List LiveJob) (was : Stand) (before : CallLog) (path : Route)
   keeps_then (Step id did) now said_then unnamed (job, jobs_is, id_is, is) = let k = h.keeps in subst (Keeps path v) (sym is) (
     ap (λ (s : Spot). s.value) (step_unnamed now did (Some (Rattle.laws_sessions.proofs.Sources.item_in job.work)) said.tree path unnamed) ∙ k.0,
     ap (λ (s : Spot). s.value) (earlier_unnamed did said.tree said.earlier path unnamed) ∙ k.1,
-    λ among. k.2 (named_step did said.left said.named path unnamed among),
+    λ among. k.2 (named_step did no_other said.left said.named path unnamed among),
   )
   keeps_then (Next id plan) now said_then unnamed (job, jobs_is, id_is, is) = subst (Keeps path v) (sym is) h.keeps
   keeps_then (event.Began id plan background) now said_then unnamed is = subst (Keeps path v) (sym is) h.keeps

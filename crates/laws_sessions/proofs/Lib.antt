@@ -65,6 +65,7 @@ pub mod Lasting
 pub mod LinkParts
 pub mod LinkTexts
 pub mod ListSteps
+pub mod LivePartsExample
 pub mod Listings
 pub mod MadeFolders
 pub mod MakingParts
@@ -91,12 +92,15 @@ pub mod NameMarks
 pub mod NameRuns
 pub mod NameSteps
 pub mod NameWaits
+pub mod NamedMore
 pub mod Names
 pub mod OneLive
 pub mod OpenFolders
 pub mod OpenTargets
+pub mod OtherParts
 pub mod OwedModes
 pub mod Owing
+pub mod Owners
 pub mod OwnFolders
 pub mod OwnParts
 pub mod PathsBelow
@@ -128,6 +132,7 @@ pub mod Stepped
 pub mod StepsKnown
 pub mod StillCopies
 pub mod StillJobs
+pub mod StillParts
 pub mod StillWorks
 pub mod SureThings
 pub mod TextSteps

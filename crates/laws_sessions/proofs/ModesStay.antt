@@ -14,7 +14,7 @@ use Rattle.session_entries.specs.declared.history.Event.TheVariants.{Key, Look, 
 use Rattle.session_entries.specs.declared.history.Event.TheVariants as event
 use Rattle.session_entries.specs.declared.history.Entry.{Entry}
 use Rattle.session_entries.specs.Entries.{IsMoment, calls_in}
-use Rattle.session_entries.specs.Named.{IsUnnamedSince, named_after, named_parts, names, names_path}
+use Rattle.session_entries.specs.Named.{IsUnnamedSince, NamedPart, is_part_of_other, left_parts, live_parts, named_after, named_parts, names, names_path}
 use Rattle.copy_move.specs.declared.work.Work.{Work}
 use Rattle.copy_move.specs.Jobs.{Running}
 use Rattle.laws_sessions.specs.Doubt.{node_waits}
@@ -31,7 +31,7 @@ use Rattle.laws_sessions.proofs.Moments.{log_of}
 use Rattle.laws_sessions.proofs.Prefixes.{told_of}
 use Rattle.laws_sessions.proofs.Reports.{JobsKnow}
 use Rattle.laws_sessions.proofs.Staying.{IsStill, doubting, kept_doubting, names_stay, sure_moment, work_doubting}
-use Rattle.laws_sessions.proofs.Stepped.{StepRan, modes_by, said_after}
+use Rattle.laws_sessions.proofs.Stepped.{StepRan, modes_by, no_other, said_after}
 use Rattle.laws_sessions.proofs.Unnamed.{named_step}
 
 abbrev ModeStill : Route → CallLog → CallLog → Type 0
@@ -63,7 +63,7 @@ module _ (opening : CallLog) (older : List Entry) (was : Stand) (before : CallLo
     said = doubting told before;
     mids = come.mids;
     sure = unsaid_mode (doubting told before) path sure other;
-    after = unsaid_mode (said_after now did work (doubting told before)) path (unset did (node_waits before) path sure unnamed) (λ among. other (named_step did (Rattle.session_entries.specs.Named.left_parts older) (named_parts older) path unnamed among)) dirty_after come.marks now come.kept;
+    after = unsaid_mode (said_after now did work (doubting told before)) path (unset did (node_waits before) path sure unnamed) (λ among. other (named_step did no_other (left_parts older) (named_parts older) path unnamed among)) dirty_after come.marks now come.kept;
   }
 
   step_still : (dirty_after : List Route) (now : CallLog) (did : Did) (job : Running) (after : Option Running) → was.jobs ≡ job ∷ [] → names did path ≡ false → StepLeads job did after was.dirty dirty_after before now
@@ -104,15 +104,15 @@ module _ (opening : CallLog) (older : List Entry) (was : Stand) (before : CallLo
   event_still Closed after now s unnamed = none_still now s.now_is
 
 -- what an entry doesn't name is a named part only if it was one
-named_before : (what : Event) (left parts : List Route) (path : Route) → names_path what path ≡ false → Among (named_after what left parts) path → Among parts path
-named_before (Step id did) left parts path unnamed among = named_step did left parts path unnamed among
-named_before (event.Began id plan background) left parts path unnamed among = among
-named_before (Order id order) left parts path unnamed among = among
-named_before (Next id plan) left parts path unnamed among = among
-named_before (Key key time refusals lost) left parts path unnamed among = among
-named_before (Look refusals) left parts path unnamed among = among
-named_before Sought left parts path unnamed among = among
-named_before Closed left parts path unnamed among = among
+pub named_before : (what : Event) (live : List NamedPart) (left parts : List Route) (path : Route) → names_path what path ≡ false → Among (named_after what live left parts) path → Among parts path
+named_before (Step id did) live left parts path unnamed among = named_step did (is_part_of_other id live) left parts path unnamed among
+named_before (event.Began id plan background) live left parts path unnamed among = among
+named_before (Order id order) live left parts path unnamed among = among
+named_before (Next id plan) live left parts path unnamed among = among
+named_before (Key key time refusals lost) live left parts path unnamed among = among
+named_before (Look refusals) live left parts path unnamed among = among
+named_before Sought live left parts path unnamed among = among
+named_before Closed live left parts path unnamed among = among
 
 modes_stay : (opening now : CallLog) (newest older standing coming : List Entry) (stand : Stand) (calls : ℕ) (path : Route) → IsTree (current opening) → all_settled opening.changes ≡ true → IsTraced opening newest stand now
     → IsMoment newest standing coming calls → IsUnnamedSince older path standing → IsUnnamedSince older path coming → node_waits (log_prefix opening (calls_in older) now) path ≡ false → (Among (named_parts older) path → ⊥)
@@ -120,7 +120,7 @@ modes_stay : (opening now : CallLog) (newest older standing coming : List Entry)
 modes_stay opening now newest older standing coming stand calls path tree settled traced moment since later sure other =
     sure_moment opening tree settled now older path (λ l. node_waits l path) (λ g. Among (named_parts g) path)
     (λ e g was before after mid before_is leads unnamed calm none. event_still opening g was before (traced_reached opening tree settled g was before before_is) path calm none e.what after mid leads unnamed)
-    (λ e g unnamed among. named_before e.what (Rattle.session_entries.specs.Named.left_parts g) (named_parts g) path unnamed among)
+    (λ e g unnamed among. named_before e.what (live_parts g) (left_parts g) (named_parts g) path unnamed among)
     sure other newest standing coming stand calls now [] traced (ap (log_of now) (sym (append-nil now.changes))) moment since later
 
 pub stays_law : StaysLaw

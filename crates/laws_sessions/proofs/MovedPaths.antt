@@ -7,7 +7,8 @@ use Rattle.tree_trait.specs.FileSystem.{View}
 use Rattle.tree_trait.specs.CrashImages.{Among}
 use Rattle.tree_trait.proofs.Visible.{same_path-true}
 use Rattle.job_reports.specs.declared.job.Pair.{Pair}
-use Rattle.session_entries.specs.Moves.{is_of_move, moved_from, paths_below, paths_moved, paths_off}
+use Rattle.session_entries.specs.Moves.{is_of_move, moved_from, paths_below, paths_moved}
+use Rattle.session_entries.specs.Named.{still_parts}
 use Rattle.laws_sessions.specs.Replayed.{keeping_moved, moved_by, nothing_there}
 use Rattle.laws_sessions.proofs.Moved.{moved_below}
 use Rattle.laws_sessions.proofs.PathsBelow.{below_way, is_below}
@@ -111,13 +112,13 @@ module _ (pair : Pair) where
       (passes_among (is_prefix pair.source) (rest ++ pair.source) paths (is_below pair.source rest) among))
 
   -- of what a move names as parts, a path that isn't of it was one before
-  pub named_off : (left before : List Route) (q : Route) → is_of_move pair q ≡ false → Among (paths_moved pair left ++ paths_below pair.target left ++ paths_off pair.target before) q → Among before q
-  named_off left before q off among = elim (among_both (paths_moved pair left ++ paths_below pair.target left) (paths_off pair.target before) q among) [
+  pub named_off : (is_other : Route → Bool) (left before : List Route) (q : Route) → is_of_move pair q ≡ false → Among (paths_moved pair left ++ paths_below pair.target left ++ still_parts is_other (is_prefix pair.target) before) q → Among before q
+  named_off is_other left before q off among = elim (among_both (paths_moved pair left ++ paths_below pair.target left) (still_parts is_other (is_prefix pair.target) before) q among) [
     | inl some ↦ elim (among_both (paths_moved pair left) (paths_below pair.target left) q some) [
       | inl moved ↦ absurd (below (moved_part_below left q moved))
       | inr here ↦ absurd (below (among_passed (is_prefix pair.target) q left here).0)
     ]
-    | inr kept ↦ (among_passed (λ path. not (is_prefix pair.target path)) q before kept).1
+    | inr kept ↦ (among_passed (λ path. is_other path || not (is_prefix pair.target path)) q before kept).1
   ]
     where
       below : is_prefix pair.target q ≡ true → ⊥

@@ -41,7 +41,7 @@ use Rattle.laws_sessions.proofs.Knowing.{HistoryFacts, IsKnown, IsKept, held, se
 use Rattle.laws_sessions.proofs.JobKnows.{HasPart, IsAsFound, IsBare, IsFilled, none_of_part, part_settled}
 use Rattle.laws_sessions.proofs.PartNodes.{moded_node, part_on, part_there}
 use Rattle.laws_sessions.proofs.PlacingParts.{PlacesPart, firm_known, firm_transit, marks_firm, placed_known}
-use Rattle.laws_sessions.proofs.Stepped.{StepRan, comes_none, comes_one, comes_then, doubt_by}
+use Rattle.laws_sessions.proofs.Stepped.{StepRan, comes_none, comes_one, comes_then, doubt_by, no_other}
 
 -- the part that stands, in any tree: what its node holds, once it held these bytes with any mode
 abbrev Kept : HistoryFacts → Route → Route → ℕ → FileSystem → FileSystem → ℕ → Marks → Type 0
@@ -188,7 +188,7 @@ abbrev pub said_placed : HistoryFacts → Route → Route → Route → HistoryF
 said_placed told source to target = record {
   tree = placed_by (Some (Copies source to)) target told.tree;
   earlier = keeping (changed_by (Placed target)) told.tree told.earlier;
-  named = named_by (Placed target) told.left told.named;
+  named = named_by (Placed target) no_other told.left told.named;
   left = told.left;
   part = None;
   doubt = doubt_by (Placed target) told.part told.doubt;

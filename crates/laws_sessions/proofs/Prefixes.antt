@@ -15,7 +15,7 @@ use Rattle.session_entries.specs.declared.history.Event.TheVariants as event
 use Rattle.session_entries.specs.declared.history.Entry.{Entry}
 use Rattle.session_entries.specs.LiveJobs.{LiveJob, live_item, live_jobs}
 use Rattle.laws_sessions.specs.Replayed.{earlier_event, earlier_tree, log_prefix, replayed_event, replayed_tree}
-use Rattle.session_entries.specs.Named.{left_parts, left_after, IsUnnamedSince, named_after, named_parts, names, names_path}
+use Rattle.session_entries.specs.Named.{left_parts, left_after, live_parts, IsUnnamedSince, named_after, named_parts, names, names_path}
 use Rattle.laws_sessions.proofs.Knowing.{HistoryFacts, anywhere}
 use Rattle.laws_sessions.proofs.Resting.{folder_at}
 use Rattle.laws_sessions.proofs.Stepped.{calm_by, folders_by, more}
@@ -72,7 +72,7 @@ abbrev pub told_with : CallLog → CallLog → List Entry → ℕ → Event → 
 told_with opening end older calls what part = record {
   tree = replayed_event (log_prefix opening calls end) what (live_jobs older) (replayed_tree opening end older);
   earlier = earlier_event what (replayed_tree opening end older) (earlier_tree opening end older);
-  named = named_after what (left_parts older) (named_parts older);
+  named = named_after what (live_parts older) (left_parts older) (named_parts older);
   left = left_after what (left_parts older);
   part = part;
   doubt = anywhere;

@@ -103,11 +103,15 @@ calm_by (Set path) item before = λ p. before p && not (same_path p (folder_of p
 calm_by (Moved pair) item before = λ p. before p && not (is_of_move pair p || (same_path p (folder_of pair.source) || same_path p (folder_of pair.target)))
 calm_by did item before = before
 
+-- no other job is live that could have named a part
+abbrev pub no_other : Route → Bool
+no_other path = false
+
 abbrev pub said_after : CallLog → Did → Work → HistoryFacts → HistoryFacts
 said_after now did work told = record {
   tree = replayed_step now did (Some (item_in work)) told.tree;
   earlier = earlier_step did told.tree told.earlier;
-  named = named_by did told.left told.named;
+  named = named_by did no_other told.left told.named;
   left = left_by did told.left;
   part = part_after did told.part;
   doubt = doubt_by did told.part told.doubt;

@@ -1,6 +1,5 @@
 -- What the entries of a history say of a path that they don't name: what it shows, what it showed before, and whether it was a part.
-use Rattle.job_reports.specs.Paths.{without}
-use Rattle.std.proofs.Common.{◌≡◌, true, false, not, List, [], ◌∷◌, refl, sym, ◌∙◌, ap, subst, inl, inr, Option, Some, None}
+use Rattle.std.proofs.Common.{◌≡◌, ◌||◌, Bool, true, false, not, List, [], ◌∷◌, refl, sym, ◌∙◌, ap, subst, inl, inr, Option, Some, None}
 use Rattle.std.proofs.lemmas.Bool.{both_ways}
 use Rattle.mc_text.specs.Routes.{Route, same_path}
 use Rattle.tree_trait.specs.FileSystem.{View, value_at}
@@ -15,7 +14,7 @@ use Rattle.session_entries.specs.declared.history.Event.TheVariants.{Key, Look, 
 use Rattle.session_entries.specs.declared.history.Event.TheVariants as event
 use Rattle.session_entries.specs.declared.history.Entry.{Entry}
 use Rattle.session_entries.specs.LiveJobs.{LiveJob, live_jobs, live_item}
-use Rattle.session_entries.specs.Named.{IsUnnamedSince, named_by, names, names_path}
+use Rattle.session_entries.specs.Named.{IsUnnamedSince, named_by, names, names_path, still_parts}
 use Rattle.session_entries.specs.Moves.{moved_from}
 use Rattle.laws_sessions.specs.Replayed.{earlier_step, log_prefix, made_by, placed_by, placed_copy, replayed_event, replayed_step, replayed_tree, set_by, with_mode, with_mode_of}
 use Rattle.laws_sessions.proofs.AmongParts.{if_among_other}
@@ -70,13 +69,14 @@ replayed_since opening end older (e ∷ g) path (inr (unnamed, since)) =
     event_unnamed (log_prefix opening e.calls end) e.what (live_jobs g) (replayed_tree opening end g) path unnamed ∙ replayed_since opening end older g path since
 
 -- a path that no entry names is a named part only if it was one
-pub named_step : (did : Did) (left parts : List Route) (path : Route) → names did path ≡ false → Among (named_by did left parts) path → Among parts path
-named_step (Began part) left parts path unnamed (inl same) = absurd (both_ways _ unnamed (subst (λ q. same_path path q ≡ true) same (same_path-self path)))
-named_step (Began part) left parts path unnamed (inr among) = among
-named_step (Placed target) left parts path unnamed among = in_filter (λ kept. Rattle.std.specs.Prelude.not (same_path kept target)) path parts (if_among_other target path left (without target parts) unnamed among)
-named_step (Made folder) left parts path unnamed among = in_filter (λ kept. Rattle.std.specs.Prelude.not (same_path kept folder)) path parts among
-named_step (Moved pair) left parts path unnamed among = named_off pair left parts path unnamed among
-named_step did left parts path unnamed among = among
+pub named_step : (did : Did) (is_other : Route → Bool) (left parts : List Route) (path : Route) → names did path ≡ false → Among (named_by did is_other left parts) path → Among parts path
+named_step (Began part) is_other left parts path unnamed (inl same) = absurd (both_ways _ unnamed (subst (λ q. same_path path q ≡ true) same (same_path-self path)))
+named_step (Began part) is_other left parts path unnamed (inr among) = among
+named_step (Placed target) is_other left parts path unnamed among =
+    in_filter (λ kept. is_other kept || not (same_path kept target)) path parts (if_among_other target path left (still_parts is_other (λ part. same_path part target) parts) unnamed among)
+named_step (Made folder) is_other left parts path unnamed among = in_filter (λ kept. is_other kept || not (same_path kept folder)) path parts among
+named_step (Moved pair) is_other left parts path unnamed among = named_off pair is_other left parts path unnamed among
+named_step did is_other left parts path unnamed among = among
 
 -- what it showed before its last change stays so, too
 pub earlier_unnamed : (did : Did) (v before : View) (path : Route) → names did path ≡ false → earlier_step did v before path ≡ before path

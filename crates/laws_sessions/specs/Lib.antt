@@ -1,8 +1,10 @@
 pub mod Calmed
 pub mod CalmedLaw
 pub mod Doubt
+pub mod LiveParts
 pub mod OneLive
 pub mod Owed
+pub mod Owners
 pub mod OwnPaths
 pub mod ApartFolders
 pub mod Replayed

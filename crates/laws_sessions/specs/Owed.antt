@@ -12,7 +12,8 @@ use Rattle.job_reports.specs.Jobs.{ItemOfJob}
 use Rattle.job_reports.specs.Paths.{folder_of}
 use Rattle.session_entries.specs.declared.history.Entry.{Entry}
 use Rattle.session_entries.specs.LiveJobs.{live_item, live_jobs}
-use Rattle.session_entries.specs.Named.{has_changed, left_parts, named_by, named_parts}
+use Rattle.session_entries.specs.Named.{has_changed, is_part_of_other, left_parts, live_parts}
+use Rattle.session_entries.specs.Named.{named_by, named_parts}
 use Rattle.copy_move.specs.declared.run.Course.TheVariants.{GoesOn}
 use Rattle.copy_move.specs.Jobs.{Running, is_fresh}
 use Rattle.copy_move.specs.Settling.{changed_folder}
@@ -60,7 +61,8 @@ pub record FirstChangeLaw : Type 0 where
       ⊎ ((name_waits log path ≡ true) × IsApart log (changed_folder job.work) (folder_of path)))
   pub modes : FirstChange (λ job did older path log now. (Among (named_parts older) path → ⊥)
       → node_waits now path ≡ true → (changes_thing did path ≡ true)
-      ⊎ (Among (named_by did (left_parts older) (named_parts older)) path
+      ⊎ (Among (named_by did (is_part_of_other job.id (live_parts older)) (left_parts older)
+      (named_parts older)) path
       ⊎ ((node_waits log path ≡ true) × IsApart log (changed_folder job.work) path)))
 
 -- A job that has changed something, and whose step is that it is finished, has left no path of its own

@@ -3,7 +3,9 @@
 #![tactic(auto)]
 
 ghost use Rattle.laws_sessions.specs.CalmedLaw.{CalmLaw};
+ghost use Rattle.laws_sessions.specs.LiveParts.{LivePartsLaw, NoOtherPartsLaw};
 ghost use Rattle.laws_sessions.specs.OneLive.{OneLiveLaw};
+ghost use Rattle.laws_sessions.specs.Owners.{OwnersLaw};
 ghost use Rattle.laws_sessions.specs.Owed.{FinishedLaw, FirstChangeLaw, OwedLaw, StepLaw};
 ghost use Rattle.laws_sessions.specs.SafeLaw.{ReplayLaw, SessionLaw};
 ghost use Rattle.laws_sessions.specs.StayingLaw.{DoneLaw, FinishedStaysLaw, StaysLaw};
@@ -27,6 +29,11 @@ pub fn where_doubt_lies()
     ensures { OwedLaw }
 {}
 
+/// Each such path has an owner: the job whose report named it last, a live one or one that has ended.
+pub fn who_owns_what_waits()
+    ensures { OwnersLaw }
+{}
+
 /// Once a job has made its first change, each change of a name that isn't on the disk yet is one of its
 /// report, or waited before on another mount, or in a folder that was removed; and so is a mode. But for
 /// what another live job named last.
@@ -44,6 +51,16 @@ pub fn what_a_first_change_calms()
 /// While a job is live no other one is, so no path is one that another live job named last.
 pub fn no_path_is_of_another()
     ensures { OneLiveLaw }
+{}
+
+/// A part that a live job named stays one, whatever another job's step brings to its path.
+pub fn what_a_live_job_named_stays_a_part()
+    ensures { LivePartsLaw }
+{}
+
+/// While a job is live no other one is, so no path is a part of another one.
+pub fn no_part_is_of_another()
+    ensures { NoOtherPartsLaw }
 {}
 
 /// A job that may report that it is finished, and has changed something, has left nothing that isn't on the

@@ -1,9 +1,10 @@
 -- Which paths the entries of a history name, as what was changed and as parts. Histories
 -- stand newest first here.
-use Rattle.std.specs.Prelude.{◌≡◌, ◌⊎◌, ℕ, ◌==◌, Bool, true, false, ◌||◌, ◌&&◌, List}
-use Rattle.std.specs.Prelude.{[], ◌∷◌, ◌++◌, Option, Some, None, if◌then◌else◌}
+use Rattle.std.specs.Prelude.{◌≡◌, ◌⊎◌, ℕ, ◌==◌, Bool, true, false, ◌||◌, ◌&&◌, not, List}
+use Rattle.std.specs.Prelude.{[], ◌∷◌, ◌++◌, Option, Some, None, if◌then◌else◌, filter}
+use Rattle.std.specs.List.{list_any}
 use Rattle.std.specs.Option.{option_map_or}
-use Rattle.mc_text.specs.Routes.{Route, same_path}
+use Rattle.mc_text.specs.Routes.{Route, is_prefix, same_path}
 use Rattle.job_reports.specs.declared.report.Did.{Did}
 use Rattle.job_reports.specs.declared.report.Did.TheVariants.{Began, Chunk, Placed, Removed, Made}
 use Rattle.job_reports.specs.declared.report.Did.TheVariants.{Set, Kept, Skipped, Cleaned, Barrier}
@@ -105,48 +106,85 @@ abbrev pub left_parts : List Entry → List Route
 left_parts [] = []
 left_parts (e ∷ older) = left_after e.what (left_parts older)
 
+-- a part, with the number of the job that named it
+pub record NamedPart : Type 0 where
+  pub id : ℕ
+  pub path : Route
+
+-- the parts that live jobs named: one more, or those of a job that has ended no longer
+abbrev pub live_parts_by : ℕ → Did → List NamedPart → List NamedPart
+live_parts_by id (Began part) before = record { id = id; path = part } ∷ before
+live_parts_by id (Ended ending part) before = filter (λ (named : NamedPart). not (named.id == id)) before
+live_parts_by id did before = before
+
+abbrev pub live_parts_after : Event → List NamedPart → List NamedPart
+live_parts_after (Step id did) before = live_parts_by id did before
+live_parts_after (Key key now refusals lost) before = before
+live_parts_after (Look refusals) before = before
+live_parts_after Sought before = before
+live_parts_after (event.Began id plan background) before = before
+live_parts_after (Order id order) before = before
+live_parts_after (Next id plan) before = before
+live_parts_after Closed before = before
+
+-- the parts that these entries named, of the jobs that are live
+abbrev pub live_parts : List Entry → List NamedPart
+live_parts [] = []
+live_parts (e ∷ older) = live_parts_after e.what (live_parts older)
+
+-- another job than the one with this number named the path as a part
+abbrev pub is_part_of_other : ℕ → List NamedPart → Route → Bool
+is_part_of_other id named path =
+    list_any (λ (part : NamedPart). not (part.id == id) && same_path path part.path) named
+
 -- the path before others, where it is one of these
 abbrev pub if_among : Route → List Route → List Route → List Route
 if_among path [] others = others
 if_among path (first ∷ rest) others =
     if same_path path first then path ∷ others else if_among path rest others
 
+-- of these paths those at which nothing came to stand, and each that is another job's part
+abbrev pub still_parts : (Route → Bool) → (Route → Bool) → List Route → List Route
+still_parts is_other came before = filter (λ path. is_other path || not (came path)) before
+
 -- A path that is placed or made is a part no more, nor is one to which something is moved, or one
 -- below it, unless that is one. But where a file is placed over a part that an ended job left, or
 -- something is moved over it, a crash may still leave that part, so the path stays one; and so does
--- that of a part that was moved.
-abbrev pub named_by : Did → List Route → List Route → List Route
-named_by (Began part) left before = part ∷ before
-named_by (Placed path) left before = if_among path left (without path before)
-named_by (Chunk count) left before = before
-named_by (Set path) left before = before
-named_by (Removed path) left before = before
-named_by (Made path) left before = without path before
-named_by (Kept kept) left before = before
-named_by (Skipped path cause) left before = before
-named_by (Cleaned part) left before = before
-named_by Barrier left before = before
-named_by (Asked question) left before = before
-named_by (Merges transfer pair names) left before = before
-named_by (Moved pair) left before =
-    paths_moved pair left ++ paths_below pair.target left ++ paths_off pair.target before
-named_by (Troubled trouble) left before = before
-named_by (Ended ending part) left before = before
+-- that of a part that was moved. And a part that another live job named stays one, whatever comes to its
+-- path once it is gone: that job sees to it that this is on the disk.
+abbrev pub named_by : Did → (Route → Bool) → List Route → List Route → List Route
+named_by (Began part) is_other left before = part ∷ before
+named_by (Placed path) is_other left before =
+    if_among path left (still_parts is_other (λ part. same_path part path) before)
+named_by (Chunk count) is_other left before = before
+named_by (Set path) is_other left before = before
+named_by (Removed path) is_other left before = before
+named_by (Made path) is_other left before = still_parts is_other (λ part. same_path part path) before
+named_by (Kept kept) is_other left before = before
+named_by (Skipped path cause) is_other left before = before
+named_by (Cleaned part) is_other left before = before
+named_by Barrier is_other left before = before
+named_by (Asked question) is_other left before = before
+named_by (Merges transfer pair names) is_other left before = before
+named_by (Moved pair) is_other left before =
+    paths_moved pair left ++ paths_below pair.target left ++ still_parts is_other (is_prefix pair.target) before
+named_by (Troubled trouble) is_other left before = before
+named_by (Ended ending part) is_other left before = before
 
-abbrev pub named_after : Event → List Route → List Route → List Route
-named_after (Step id did) left before = named_by did left before
-named_after (Key key now refusals lost) left before = before
-named_after (Look refusals) left before = before
-named_after Sought left before = before
-named_after (event.Began id plan background) left before = before
-named_after (Order id order) left before = before
-named_after (Next id plan) left before = before
-named_after Closed left before = before
+abbrev pub named_after : Event → List NamedPart → List Route → List Route → List Route
+named_after (Step id did) live left before = named_by did (is_part_of_other id live) left before
+named_after (Key key now refusals lost) live left before = before
+named_after (Look refusals) live left before = before
+named_after Sought live left before = before
+named_after (event.Began id plan background) live left before = before
+named_after (Order id order) live left before = before
+named_after (Next id plan) live left before = before
+named_after Closed live left before = before
 
 -- the paths that these entries named as parts
 abbrev pub named_parts : List Entry → List Route
 named_parts [] = []
-named_parts (e ∷ older) = named_after e.what (left_parts older) (named_parts older)
+named_parts (e ∷ older) = named_after e.what (live_parts older) (left_parts older) (named_parts older)
 
 -- a report of the first change that work makes: a part or a folder is made, a thing is removed or
 -- moved, or a mode is given
