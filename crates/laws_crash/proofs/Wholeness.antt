@@ -34,14 +34,14 @@ pub record Grown (log : CallLog) (c : Change) (image : FileSystem) : Type 0 wher
   pub left : IsImage log mid
   pub how : (image ≡ after_change mid c) ⊎ Lost mid c image
 
-grown : (log : CallLog) (c : Change) (image : FileSystem) → IsImage (with_change log c) image → Grown log c image
+pub grown : (log : CallLog) (c : Change) (image : FileSystem) → IsImage (with_change log c) image → Grown log c image
 grown log c image left =
     let r = grows_law log.opening image log.changes c left in
     record { mid = r.0; left = r.1; how = elim r.2 [ inl kept ↦ inl kept | inr lost ↦ inr lost.1 ] }
 
 module _ (log : CallLog) (c : Change) (image : FileSystem) (g : Grown log c image) where
   -- a name that isn't changed
-  name_same : (k : ℕ) (m : List ℕ) → says c (length (current log).nodes) k m ≡ None → lookup image.names k m ≡ lookup g.mid.names k m
+  pub name_same : (k : ℕ) (m : List ℕ) → says c (length (current log).nodes) k m ≡ None → lookup image.names k m ≡ lookup g.mid.names k m
   name_same k m none =
       elim g.how [
         | inl kept ↦

@@ -20,7 +20,7 @@ pub use live_jobs::{
     what_holds_at_an_opening, what_is_known_of_nodes, what_stays_while_others_work,
     where_a_job_may_begin, where_paths_come_to_rest,
 };
-pub use moved_things::what_is_moved_stays_whole;
+pub use moved_things::{what_is_moved_stays_whole, what_meets_no_moved_thing};
 pub use names_of_jobs::{
     what_a_making_is, what_a_placing_is, what_a_removal_is, what_a_renaming_is,
     what_is_known_below_a_path, what_names_a_moved_thing_has,

@@ -413,7 +413,7 @@ module _ (opening : CallLog) (tree : IsTree (current opening)) (settled : all_se
             by true named (inl unnamed) = absurd (both_ways _ unnamed named)
             by true named (inr since) = let n = named_by_step e.what path named in both_then e g n.0 n.1 n.2 first since never n.3 known off
 
-        pub known_since : (g : List Entry) → IsFirst g → LastsSince begun (λ what. names_path what path) g → IsNever g → IsOff begun → Known g × IsOff g
+        pub known_since : (g : List Entry) → IsFirst g → LastsSince begun (λ what. names_path what path ≡ false) g → IsNever g → IsOff begun → Known g × IsOff g
         known_since [] first since never off = (inl since, subst (λ xs. IsOff xs) since off)
         known_since (e ∷ g) first (inl since) never off = (inl (inl since), subst (λ xs. IsOff xs) since off)
         known_since (e ∷ g) first (inr (how, since)) never off = extended e g first how never (known_since g (before_newest e g first) since (λ none was. never none (inr was)) off)

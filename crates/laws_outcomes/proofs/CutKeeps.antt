@@ -1,7 +1,7 @@
 -- The six sentences on a power cut.
 use Rattle.std.proofs.Common.{◌≡◌, ◌⊎◌, ℕ, ◌+◌, Bool, true, false, List, [], ◌∷◌, ◌++◌, length, refl, sym, ◌∙◌, ap, subst, inl, inr, Option, Some, None}
-use Rattle.std.specs.Prelude.{⊤, ◌&&◌, not, is_some, if◌then◌else◌}
-use Rattle.std.proofs.lemmas.Bool.{and_parts, both_ways, not-true, true≢false}
+use Rattle.std.specs.Prelude.{⊤, ◌&&◌, ◌||◌, not, is_some, if◌then◌else◌}
+use Rattle.std.proofs.lemmas.Bool.{and_parts, both_ways, not-true, or_left, true≢false}
 use Rattle.mc_text.specs.Routes.{Route, is_prefix}
 use Rattle.tree_trait.specs.declared.file_system.FileSystem.{FileSystem}
 use Rattle.tree_trait.specs.Shape.{IsTree}
@@ -23,10 +23,10 @@ use Rattle.laws_outcomes.specs.Touched.{IsAtSince, IsPartAt, LastsSince, came_fr
 use Rattle.laws_sessions.specs.Replayed.{log_prefix, moved_by, nothing_there, replayed_step, replayed_tree}
 use Rattle.laws_sessions.specs.Traces.{IsTraced, Stand}
 use Rattle.laws_sessions.proofs.Holding.{holds_since}
-use Rattle.laws_sessions.specs.Whole.{begins_in}
+use Rattle.laws_sessions.specs.Whole.{Spares, meets}
 use Rattle.laws_sessions.proofs.Moved.{moved_below}
 use Rattle.laws_sessions.proofs.MovedPaths.{moved_part}
-use Rattle.laws_sessions.proofs.PathsBelow.{below_way}
+use Rattle.laws_sessions.proofs.PathsBelow.{below_way, is_below}
 use Rattle.laws_sessions.proofs.Unnamed.{replayed_since}
 use Rattle.laws_sessions.proofs.WholeMoments.{whole_law}
 use Rattle.laws_outcomes.specs.KeepsFiles.{IsLeft, IsPromised, KeepsFiles, stood}
@@ -37,7 +37,7 @@ use Rattle.laws_outcomes.proofs.ChangedPaths.{IsChanged}
 use Rattle.laws_outcomes.proofs.CutEntries.{AtStep, IsFirst, IsMade, before_newest, changed_touches}
 use Rattle.laws_outcomes.proofs.CutLive.{AllLive, all_live, all_map, taken_item}
 use Rattle.laws_outcomes.proofs.CutMoments.{at_path, begun_first, stood_shown, two, unnamed_before}
-use Rattle.laws_outcomes.proofs.CutMoves.{AllUnnamed, MovedIn, left_since, moves_at, moves_since, named_since}
+use Rattle.laws_outcomes.proofs.CutMoves.{AllSpared, MovedIn, left_since, moves_at, moves_since, named_since}
 use Rattle.laws_outcomes.proofs.CutSteps.{IsGoing, IsPlainReport, OnlyMoves, StepFact, pair_at}
 use Rattle.laws_outcomes.proofs.CutValues.{IsNew, IsOver, copied_new, copied_over, folder_new, link_new, made_bare, mode_new, removed_none, source_same}
 
@@ -140,8 +140,8 @@ module _ (opening : CallLog) (tree : IsTree (current opening)) (settled : all_se
       | inr none ↦ absurd none
     ]
 
-  begun_is : (is_such : Event → Bool) → LastsSince begun is_such coming → First begun
-  begun_is is_such since = let t = two opening tree settled end newest begun standing coming stand calls image traced moment left in begun_first opening tree settled end begun is_such coming t.comes since
+  begun_is : (IsStill : Event → Type 0) → LastsSince begun IsStill coming → First begun
+  begun_is IsStill since = let t = two opening tree settled end newest begun standing coming stand calls image traced moment left in begun_first opening tree settled end begun IsStill coming t.comes since
 
   -- a source that is taken up
   module _ (item : ItemOfJob) (taken : taken_up begun ≡ Some item) (first_begun : First begun) where
@@ -377,27 +377,30 @@ module _ (opening : CallLog) (tree : IsTree (current opening)) (settled : all_se
       ]
 
   -- a thing that is moved
-  module _ (from to : Route) (taken : taken_up begun ≡ Some (Moves from to)) (since : LastsSince begun begins_in standing) (later : LastsSince begun begins_in coming) where
+  module _ (from to : Route) (taken : taken_up begun ≡ Some (Moves from to)) (since : LastsSince begun (Spares from to) standing) (later : LastsSince begun (Spares from to) coming) where
     abbrev IsAt : Route → Type 0
     IsAt there = (rest : Route) → IsPromised log begun (rest ++ from) → value_at image (rest ++ there) ≡ was (rest ++ from)
 
     moving : AllLive (λ i. i ≡ Moves from to) (live_jobs begun)
-    moving = its (Moves from to) taken (begun_is begins_in later)
+    moving = its (Moves from to) taken (begun_is (Spares from to) later)
 
     was_then : (p : Route) → was p ≡ (shown begun p).value
-    was_then p = was_here (Moves from to) taken (begun_is begins_in later) p
+    was_then p = was_here (Moves from to) taken (begun_is (Spares from to) later) p
 
-    at_source : AllUnnamed opening tree settled end begun from to moving coming → IsAt from
+    on_source : (rest : Route) → (meets from (rest ++ from) || meets to (rest ++ from)) ≡ true
+    on_source rest = or_left _ _ (or_left _ _ (is_below from rest))
+
+    at_source : AllSpared opening tree settled end begun from to moving coming → IsAt from
     at_source all rest firm =
         let t = two opening tree settled end newest begun standing coming stand calls image traced moment left in
         holds_since opening end newest begun standing coming stand calls (rest ++ from) image tree settled traced moment
-        (unnamed_before begun begins_in standing coming (rest ++ from) since t.next (all (rest ++ from))) (all (rest ++ from)) firm.on_disk
+        (unnamed_before begun (Spares from to) standing coming (rest ++ from) since t.next (all (rest ++ from) (on_source rest))) (all (rest ++ from) (on_source rest)) firm.on_disk
         (inl (λ among. firm.no_part (inl among))) left
         ∙ sym (was_then (rest ++ from))
 
     whole : MovedIn opening tree settled end begun from to moving coming → (there : Route) × ((there ≡ from) ⊎ (there ≡ to)) × IsAt there
     whole m =
-        let w = whole_law opening end newest stand tree settled traced m.older standing coming m.e m.id (pair_at from to) calls image m.what_is moment m.still left in
+        let w = whole_law opening end newest stand tree settled traced m.older standing coming m.e m.id (pair_at from to) calls image m.what_is moment m.spared left in
         elim w.stands [
           | inl stands ↦ (from, inl refl, λ rest firm. stands rest (no_part rest firm) ∙ as_first rest)
           | inr stands ↦ (to, inr refl, λ rest firm. stands rest (no_part rest firm) ∙ as_first rest)
@@ -412,16 +415,16 @@ module _ (opening : CallLog) (tree : IsTree (current opening)) (settled : all_se
     pub moved_whole : (there : Route) × ((there ≡ from) ⊎ (there ≡ to)) × IsAt there
     moved_whole =
         let t = two opening tree settled end newest begun standing coming stand calls image traced moment left in
-        elim (moves_since opening tree settled end begun from to moving coming t.comes later).1 [
+        elim (moves_since opening tree settled end begun from to moving coming t.comes later) [
           | inl all ↦ (from, inl refl, at_source all)
           | inr m ↦ whole m
         ]
 
-  abbrev Names : Route → Event → Bool
-  Names path what = names_path what path
+  abbrev IsUnnamed : Route → Event → Type 0
+  IsUnnamed path what = names_path what path ≡ false
 
   first_of : (path : Route) → Left path → First begun
-  first_of path l = begun_is (Names path) l.later
+  first_of path l = begun_is (IsUnnamed path) l.later
 
   -- a copy touches nothing off its target
   off_target : (from to path : Route) → taken_up begun ≡ Some (Copies from to) → is_prefix to path ≡ false → (l : Left path) → AllLive (λ i. touches i path ≡ false) (live_jobs begun)

@@ -21,7 +21,6 @@ use Rattle.session_entries.specs.LiveJobs.{LiveJob, after_event, after_report, l
 use Rattle.session_entries.specs.Sources.{first_item}
 use Rattle.laws_outcomes.specs.Touched.{IsAtSince, taken_after, taken_by, taken_up}
 use Rattle.copy_move.specs.Jobs.{Running}
-use Rattle.laws_sessions.specs.Whole.{begins_in}
 use Rattle.laws_sessions.specs.Traces.{EventLeads, Follows, IsTraced, Stand}
 use Rattle.laws_sessions.proofs.Going.{only_job}
 use Rattle.laws_sessions.proofs.Histories.{IsReached, traced_reached}
@@ -210,51 +209,6 @@ NoPart jobs = AllJobs (λ job. job.part ≡ None) jobs
 pub just_bare : (item : ItemOfJob) (jobs : List LiveJob) → AllJobs (IsJust item) jobs → NoPart jobs
 just_bare item [] all = tt
 just_bare item (job ∷ jobs) all = ((let h = all.0 in h.1), just_bare item jobs all.1)
-
-bare_if : (b : Bool) (job new : LiveJob) (jobs after : List LiveJob) → new.part ≡ None → NoPart (job ∷ jobs) → NoPart after → NoPart (if◌then◌else◌ b (new ∷ jobs) (job ∷ after))
-bare_if true job new jobs after none all rest = (none, all.1)
-bare_if false job new jobs after none all rest = (all.0, rest)
-
-gone_if : (b : Bool) (job : LiveJob) (jobs after : List LiveJob) → NoPart (job ∷ jobs) → NoPart after → NoPart (if◌then◌else◌ b jobs (job ∷ after))
-gone_if true job jobs after all rest = all.1
-gone_if false job jobs after all rest = (all.0, rest)
-
--- nor does one after a report that begins no change
-report_bare : (id : ℕ) (did : Did) (jobs : List LiveJob) → begins_change did ≡ false → NoPart jobs → NoPart (after_report id did jobs)
-report_bare id did [] quiet all = tt
-report_bare id (Began part) (job ∷ jobs) quiet all = absurd (true≢false quiet)
-report_bare id (Removed path) (job ∷ jobs) quiet all = absurd (true≢false quiet)
-report_bare id (Made path) (job ∷ jobs) quiet all = absurd (true≢false quiet)
-report_bare id (Set path) (job ∷ jobs) quiet all = absurd (true≢false quiet)
-report_bare id (Moved pair) (job ∷ jobs) quiet all = absurd (true≢false quiet)
-report_bare id (Ended ending part) (job ∷ jobs) quiet all = gone_if (job.id == id) job jobs (after_report id (Ended ending part) jobs) all (report_bare id (Ended ending part) jobs quiet all.1)
-report_bare id (Chunk count) (job ∷ jobs) quiet all = bare_if (job.id == id) job _ jobs (after_report id (Chunk count) jobs) all.0 all (report_bare id (Chunk count) jobs quiet all.1)
-report_bare id (Placed path) (job ∷ jobs) quiet all = bare_if (job.id == id) job _ jobs (after_report id (Placed path) jobs) refl all (report_bare id (Placed path) jobs quiet all.1)
-report_bare id (Kept path) (job ∷ jobs) quiet all = bare_if (job.id == id) job _ jobs (after_report id (Kept path) jobs) all.0 all (report_bare id (Kept path) jobs quiet all.1)
-report_bare id (Skipped path cause) (job ∷ jobs) quiet all = bare_if (job.id == id) job _ jobs (after_report id (Skipped path cause) jobs) all.0 all (report_bare id (Skipped path cause) jobs quiet all.1)
-report_bare id (Cleaned part) (job ∷ jobs) quiet all = bare_if (job.id == id) job _ jobs (after_report id (Cleaned part) jobs) refl all (report_bare id (Cleaned part) jobs quiet all.1)
-report_bare id Barrier (job ∷ jobs) quiet all = bare_if (job.id == id) job _ jobs (after_report id Barrier jobs) all.0 all (report_bare id Barrier jobs quiet all.1)
-report_bare id (Asked question) (job ∷ jobs) quiet all = bare_if (job.id == id) job _ jobs (after_report id (Asked question) jobs) all.0 all (report_bare id (Asked question) jobs quiet all.1)
-report_bare id (Merges transfer pair names) (job ∷ jobs) quiet all = bare_if (job.id == id) job _ jobs (after_report id (Merges transfer pair names) jobs) all.0 all (report_bare id (Merges transfer pair names) jobs quiet all.1)
-report_bare id (Troubled trouble) (job ∷ jobs) quiet all = bare_if (job.id == id) job _ jobs (after_report id (Troubled trouble) jobs) all.0 all (report_bare id (Troubled trouble) jobs quiet all.1)
-
-begun_bare : (id : ℕ) (o : Option ItemOfJob) (jobs : List LiveJob) → o ≡ None → NoPart jobs → NoPart (option_map_or (λ item. live id item ∷ jobs) o jobs)
-begun_bare id None jobs none all = all
-begun_bare id (Some item) jobs none all = absurd (let f : ⊥ = cc in f)
-
-turned_bare : (id : ℕ) (o : Option ItemOfJob) (jobs : List LiveJob) → o ≡ None → NoPart jobs → NoPart (option_map_or (λ item. map (turned_live_job id item) jobs) o jobs)
-turned_bare id None jobs none all = all
-turned_bare id (Some item) jobs none all = absurd (let f : ⊥ = cc in f)
-
-pub event_bare : (what : Event) (jobs : List LiveJob) → taken_by what ≡ None → begins_in what ≡ false → NoPart jobs → NoPart (after_event what jobs)
-event_bare (Step id did) jobs none quiet all = report_bare id did jobs quiet all
-event_bare (event.Began id plan background) jobs none quiet all = begun_bare id (first_item plan) jobs none all
-event_bare (Next id plan) jobs none quiet all = turned_bare id (item_of plan) jobs none all
-event_bare (Order id order) jobs none quiet all = all
-event_bare (Key key time refusals lost) jobs none quiet all = all
-event_bare (Look refusals) jobs none quiet all = all
-event_bare Sought jobs none quiet all = all
-event_bare Closed jobs none quiet all = all
 
 -- the source that is taken up, if one is
 pub taken_either : (what : Event) → (taken_by what ≡ None) ⊎ ((item : ItemOfJob) × (taken_by what ≡ Some item))

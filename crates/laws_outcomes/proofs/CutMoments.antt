@@ -30,14 +30,14 @@ use Rattle.laws_outcomes.proofs.CutEntries.{IsFirst, IsMade, IsNever, IsOff, Kno
 use Rattle.laws_outcomes.proofs.CutLive.{AllJobs, AllLive, just_bare, taken_just}
 
 -- what begins these entries
-module _ (begun : List Entry) (is_such : Event → Bool) where
-  left_longer : (g : List Entry) → LastsSince begun is_such g → length begun ≤ length g
+module _ (begun : List Entry) (IsStill : Event → Type 0) where
+  left_longer : (g : List Entry) → LastsSince begun IsStill g → length begun ≤ length g
   left_longer [] same = let n = ap (λ (xs : List Entry). length xs) same in omega (arith, n)
   left_longer (e ∷ g) (inl same) = let n = ap (λ (xs : List Entry). length xs) same in omega (arith, n)
   left_longer (e ∷ g) (inr (how, since)) = let n = left_longer g since in omega (arith, n)
 
   -- an entry more, and no name of the path since
-  pub unnamed_before : (standing coming : List Entry) (path : Route) → LastsSince begun is_such standing → (coming ≡ standing) ⊎ ((e : Entry) × (coming ≡ e ∷ standing)) → IsUnnamedSince begun path coming → IsUnnamedSince begun path standing
+  pub unnamed_before : (standing coming : List Entry) (path : Route) → LastsSince begun IsStill standing → (coming ≡ standing) ⊎ ((e : Entry) × (coming ≡ e ∷ standing)) → IsUnnamedSince begun path coming → IsUnnamedSince begun path standing
   unnamed_before standing coming path left (inl same) since = subst (IsUnnamedSince begun path) same since
   unnamed_before standing coming path left (inr (e, is)) since = by (subst (IsUnnamedSince begun path) is since)
     where
@@ -70,10 +70,10 @@ module _ (opening : CallLog) (tree : IsTree (current opening)) (settled : all_se
   }
   moments (e ∷ g) standing coming calls first (inr (inr earlier)) = moments g standing coming calls (before_newest opening tree settled end e g first) earlier
 
-  pub begun_first : (begun : List Entry) (is_such : Event → Bool) (g : List Entry) → First g → LastsSince begun is_such g → First begun
-  begun_first begun is_such [] first same = subst (λ g. First g) (sym same) first
-  begun_first begun is_such (e ∷ g) first (inl same) = subst (λ g. First g) (sym same) first
-  begun_first begun is_such (e ∷ g) first (inr (how, since)) = begun_first begun is_such g (before_newest opening tree settled end e g first) since
+  pub begun_first : (begun : List Entry) (IsStill : Event → Type 0) (g : List Entry) → First g → LastsSince begun IsStill g → First begun
+  begun_first begun IsStill [] first same = subst (λ g. First g) (sym same) first
+  begun_first begun IsStill (e ∷ g) first (inl same) = subst (λ g. First g) (sym same) first
+  begun_first begun IsStill (e ∷ g) first (inr (how, since)) = begun_first begun IsStill g (before_newest opening tree settled end e g first) since
 
   -- what the history tells stood there, but of a part that stands
   module _ (begun : List Entry) (first : First begun) where
@@ -120,7 +120,7 @@ module _ (opening : CallLog) (tree : IsTree (current opening)) (settled : all_se
       firm = l.firm
 
       pub stood_first : stood (log_prefix opening (calls_in begun) end) path ≡ (shown begun path).value
-      stood_first = stood_apart begun (begun_first begun (λ what. names_path what path) coming two.comes l.later) path firm.no_part
+      stood_first = stood_apart begun (begun_first begun (λ what. names_path what path ≡ false) coming two.comes l.later) path firm.no_part
 
       module _ (Its : ItemOfJob → Type 0) (its : AllLive Its (live_jobs begun)) (Is : Option Value → Type 0) (made : IsMade opening tree settled end begun path Its its Is) where
         abbrev Holds : Type 0
@@ -176,7 +176,7 @@ module _ (opening : CallLog) (tree : IsTree (current opening)) (settled : all_se
 
             by : KnownAt coming → KnownAt standing → Holds
             by (inl unnamed, off) known =
-                inl (holds_since opening end newest begun standing coming stand calls path image tree settled traced moment (unnamed_before begun (λ what. names_path what path) standing coming path l.since two.next unnamed) unnamed firm.on_disk bare left ∙ sym stood_first)
+                inl (holds_since opening end newest begun standing coming stand calls path image tree settled traced moment (unnamed_before begun (λ what. names_path what path ≡ false) standing coming path l.since two.next unnamed) unnamed firm.on_disk bare left ∙ sym stood_first)
             by (inr changed, off) (inl unnamed, before_off) = elim (holds_or_comes opening end newest begun standing coming stand calls path image tree settled traced moment unnamed firm.on_disk bare left) [
               | inl holds ↦ inl (holds ∙ sym stood_first)
               | inr safe ↦ safe_of coming (apart coming comes never_coming) changed safe

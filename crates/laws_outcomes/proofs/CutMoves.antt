@@ -1,6 +1,6 @@
--- While a job is at the move of a thing no entry names any path, but the one that tells of the move; and behind that none does, nor tells that another change is begun, until one is.
+-- While a job is at the move of a thing no entry names any path, but the one that tells of the move; and once another source is taken up, none that meets its two, until one does.
 use Rattle.std.proofs.Common.{◌≡◌, ◌⊎◌, ℕ, Bool, true, false, List, [], ◌∷◌, ◌++◌, refl, sym, ◌∙◌, ap, subst, inl, inr, Option, Some, None}
-use Rattle.std.specs.Prelude.{⊤, is_some, if◌then◌else◌}
+use Rattle.std.specs.Prelude.{⊤, ◌||◌, is_some, if◌then◌else◌}
 use Rattle.std.proofs.lemmas.Bool.{both_ways, false_from_ne_true, true≢false}
 use Rattle.mc_text.specs.Routes.{Route, is_prefix}
 use Rattle.tree_trait.specs.Shape.{IsTree}
@@ -10,38 +10,37 @@ use Rattle.tree_trait.specs.FileSystem.{Spot, View}
 use Rattle.job_reports.specs.declared.job.Pair.{Pair}
 use Rattle.job_reports.specs.declared.report.Did.{Did}
 use Rattle.job_reports.specs.declared.report.Did.TheVariants.{Began, Chunk, Placed, Removed, Made, Set, Kept, Skipped, Cleaned, Barrier, Asked, Merges, Moved, Troubled, Ended}
-use Rattle.job_reports.specs.Jobs.{ItemOfJob, Copies, Moves}
+use Rattle.job_reports.specs.Jobs.{ItemOfJob, Moves}
 use Rattle.session_entries.specs.declared.history.Event.{Event}
 use Rattle.session_entries.specs.declared.history.Event.TheVariants.{Key, Look, Sought, Order, Step, Next, Closed}
 use Rattle.session_entries.specs.declared.history.Event.TheVariants as event
 use Rattle.session_entries.specs.declared.history.Entry.{Entry}
 use Rattle.session_entries.specs.LiveJobs.{live_jobs}
 use Rattle.session_entries.specs.Moves.{moved_from}
-use Rattle.session_entries.specs.Named.{IsUnnamedSince, begins_change, left_parts, live_parts, named_parts, names, names_path}
+use Rattle.session_entries.specs.Named.{IsUnnamedSince, left_parts, live_parts, named_parts, names, names_path}
 use Rattle.laws_outcomes.specs.Touched.{IsAtSince, LastsSince, taken_by}
 use Rattle.laws_sessions.specs.Replayed.{log_prefix, moved_by, nothing_there, replayed_step, replayed_tree}
-use Rattle.laws_sessions.specs.Traces.{IsTraced}
-use Rattle.laws_sessions.specs.Whole.{IsStillSince, begins_in}
+use Rattle.laws_sessions.specs.Whole.{AreSparedSince, Spares, meets}
 use Rattle.laws_sessions.proofs.PathsBelow.{below_way, is_below}
 use Rattle.laws_sessions.proofs.Moved.{moved_below}
 use Rattle.laws_outcomes.proofs.ApartPaths.{AreApart}
-use Rattle.laws_outcomes.proofs.CutEntries.{AtStep, IsFirst, at_step, before_newest, cleaned_part, ended_part, event_unchanged}
-use Rattle.laws_outcomes.proofs.CutLive.{AllLive, NoPart, event_bare, just_bare, live_since, taken_either, taken_live}
+use Rattle.laws_outcomes.proofs.CutEntries.{AtStep, IsFirst, at_step, before_newest, event_unchanged}
+use Rattle.laws_outcomes.proofs.CutLive.{AllLive, live_since, taken_either}
 use Rattle.laws_outcomes.proofs.CutParts.{left_event, named_event}
 use Rattle.laws_outcomes.proofs.CutSteps.{IsGoing, IsPlainReport, OnlyMoves, StepFact, pair_at}
 
--- a report that names no path begins no change
-plain_unnamed : (did : Did) → IsPlainReport did → ((path : Route) → names did path ≡ false) × (begins_change did ≡ false)
-plain_unnamed (Chunk count) plain = (λ path. refl, refl)
-plain_unnamed (Kept kept) plain = (λ path. refl, refl)
-plain_unnamed (Skipped left cause) plain = (λ path. refl, refl)
-plain_unnamed (Asked question) plain = (λ path. refl, refl)
-plain_unnamed (Merges transfer pair within) plain = (λ path. refl, refl)
-plain_unnamed Barrier plain = (λ path. refl, refl)
-plain_unnamed (Troubled trouble) plain = (λ path. refl, refl)
-plain_unnamed (Ended ending None) plain = (λ path. refl, refl)
-plain_unnamed (Ended ending (Some part)) plain = absurd (let f : ⊥ = cc in f)
-plain_unnamed did plain = absurd plain
+-- a report that names no path
+plain_unnamed : (did : Did) → IsPlainReport did → (path : Route) → names did path ≡ false
+plain_unnamed (Chunk count) plain path = refl
+plain_unnamed (Kept kept) plain path = refl
+plain_unnamed (Skipped left cause) plain path = refl
+plain_unnamed (Asked question) plain path = refl
+plain_unnamed (Merges transfer pair within) plain path = refl
+plain_unnamed Barrier plain path = refl
+plain_unnamed (Troubled trouble) plain path = refl
+plain_unnamed (Ended ending None) plain path = refl
+plain_unnamed (Ended ending (Some part)) plain path = absurd (let f : ⊥ = cc in f)
+plain_unnamed did plain path = absurd plain
 
 -- it tells of the move, or is such a one
 how_moves : (v : View) (moved : Pair) (did : Did) → OnlyMoves v moved did → ((did ≡ Moved moved) × IsGoing v moved) ⊎ IsPlainReport did
@@ -56,36 +55,16 @@ how_moves v moved (Troubled trouble) only = inr only
 how_moves v moved (Ended ending part) only = inr only
 how_moves v moved did only = absurd only
 
--- where no part stands, a report that begins no change names nothing
-quiet_names : (v : View) (item : ItemOfJob) (did : Did) → StepFact item v None did → begins_change did ≡ false → (path : Route) → names did path ≡ false
-quiet_names v item (Began part) fact quiet path = absurd (true≢false quiet)
-quiet_names v item (Removed gone) fact quiet path = absurd (true≢false quiet)
-quiet_names v item (Made made) fact quiet path = absurd (true≢false quiet)
-quiet_names v item (Set set) fact quiet path = absurd (true≢false quiet)
-quiet_names v item (Moved pair) fact quiet path = absurd (true≢false quiet)
-quiet_names v (Copies source target) (Placed placed) fact quiet path = absurd (true≢false (sym fact.0.0))
-quiet_names v item (Placed placed) fact quiet path = absurd fact
-quiet_names v item (Cleaned part) fact quiet path = absurd (let e = cleaned_part v None item part fact in let f : ⊥ = cc in f)
-quiet_names v item (Ended ending None) fact quiet path = refl
-quiet_names v item (Ended ending (Some part)) fact quiet path = absurd (elim (ended_part v None item ending (Some part) fact) [ inl none ↦ (let f : ⊥ = cc in f) | inr same ↦ (let f : ⊥ = cc in f) ])
-quiet_names v item (Chunk count) fact quiet path = refl
-quiet_names v item (Kept kept) fact quiet path = refl
-quiet_names v item (Skipped left cause) fact quiet path = refl
-quiet_names v item Barrier fact quiet path = refl
-quiet_names v item (Asked question) fact quiet path = refl
-quiet_names v item (Merges transfer pair within) fact quiet path = refl
-quiet_names v item (Troubled trouble) fact quiet path = refl
-
--- what takes up a source names nothing, and begins no change
-takes_names : (what : Event) (item : ItemOfJob) → taken_by what ≡ Some item → ((path : Route) → names_path what path ≡ false) × (begins_in what ≡ false)
-takes_names (Step id did) item is = absurd (let f : ⊥ = cc in f)
-takes_names (event.Began id plan background) item is = (λ path. refl, refl)
-takes_names (Next id plan) item is = (λ path. refl, refl)
-takes_names (Order id order) item is = absurd (let f : ⊥ = cc in f)
-takes_names (Key key time refusals lost) item is = absurd (let f : ⊥ = cc in f)
-takes_names (Look refusals) item is = absurd (let f : ⊥ = cc in f)
-takes_names Sought item is = absurd (let f : ⊥ = cc in f)
-takes_names Closed item is = absurd (let f : ⊥ = cc in f)
+-- what takes up a source names nothing
+takes_names : (what : Event) (item : ItemOfJob) → taken_by what ≡ Some item → (path : Route) → names_path what path ≡ false
+takes_names (Step id did) item is path = absurd (let f : ⊥ = cc in f)
+takes_names (event.Began id plan background) item is path = refl
+takes_names (Next id plan) item is path = refl
+takes_names (Order id order) item is path = absurd (let f : ⊥ = cc in f)
+takes_names (Key key time refusals lost) item is path = absurd (let f : ⊥ = cc in f)
+takes_names (Look refusals) item is path = absurd (let f : ⊥ = cc in f)
+takes_names Sought item is path = absurd (let f : ⊥ = cc in f)
+takes_names Closed item is path = absurd (let f : ⊥ = cc in f)
 
 -- a path that no entry names is a part only where it was one
 pub named_since : (begun g : List Entry) (path : Route) → IsUnnamedSince begun path g → Among (named_parts g) path → Among (named_parts begun) path
@@ -109,13 +88,17 @@ module _ (opening : CallLog) (tree : IsTree (current opening)) (settled : all_se
   abbrev pub AllUnnamed : List Entry → Type 0
   AllUnnamed g = (path : Route) → IsUnnamedSince begun path g
 
-  -- one tells of the move, and since then no change was begun
+  -- or any that meets one of the two
+  abbrev pub AllSpared : List Entry → Type 0
+  AllSpared g = (path : Route) → (meets source path || meets target path) ≡ true → IsUnnamedSince begun path g
+
+  -- one tells of the move, and since then none names a path that meets its two
   pub record MovedIn (g : List Entry) : Type 0 where
     pub older : List Entry
     pub e : Entry
     pub id : ℕ
     pub what_is : e.what ≡ Step id (Moved (pair_at source target))
-    pub still : IsStillSince (e ∷ older) g
+    pub spared : AreSparedSince (pair_at source target) (e ∷ older) g
     pub unnamed : AllUnnamed older
 
   -- and nothing stands at the source
@@ -134,15 +117,11 @@ module _ (opening : CallLog) (tree : IsTree (current opening)) (settled : all_se
       off : is_prefix target source ≡ false
       off = false_from_ne_true _ (λ below. let w = below_way target source below in apart [] w.0 w.1)
 
-  -- an entry that names no path, and begins no change
-  stays : (e : Entry) (g : List Entry) → ((path : Route) → names_path e.what path ≡ false) → begins_in e.what ≡ false → AllUnnamed g ⊎ MovedIn g → AllUnnamed (e ∷ g) ⊎ MovedIn (e ∷ g)
-  stays e g none still (inl all) = inl (λ path. inr (none path, all path))
-  stays e g none still (inr m) = inr (record { older = m.older; e = m.e; id = m.id; what_is = m.what_is; still = inr (still, m.still); unnamed = m.unnamed })
-
-  quiet : (e : Entry) (g : List Entry) → ((path : Route) → names_path e.what path ≡ false) → begins_in e.what ≡ false → AllUnnamed g ⊎ MovedAt g → AllUnnamed (e ∷ g) ⊎ MovedAt (e ∷ g)
-  quiet e g none still (inl all) = inl (λ path. inr (none path, all path))
-  quiet e g none still (inr (m, gone)) = inr (
-    record { older = m.older; e = m.e; id = m.id; what_is = m.what_is; still = inr (still, m.still); unnamed = m.unnamed },
+  -- an entry that names no path
+  quiet : (e : Entry) (g : List Entry) → ((path : Route) → names_path e.what path ≡ false) → AllUnnamed g ⊎ MovedAt g → AllUnnamed (e ∷ g) ⊎ MovedAt (e ∷ g)
+  quiet e g none (inl all) = inl (λ path. inr (none path, all path))
+  quiet e g none (inr (m, gone)) = inr (
+    record { older = m.older; e = m.e; id = m.id; what_is = m.what_is; spared = inr (λ path on. none path, m.spared); unnamed = m.unnamed },
     ap (λ (s : Spot). s.value) (event_unchanged (log_prefix opening e.calls end) e.what (live_jobs g) (shown g) source (none source)) ∙ gone,
   )
 
@@ -158,13 +137,13 @@ module _ (opening : CallLog) (tree : IsTree (current opening)) (settled : all_se
         | inl moves ↦ moved moves.0 moves.1 known
         | inr plain ↦
             let p = plain_unnamed did plain in
-            quiet e g (λ path. ap (λ w. names_path w path) is ∙ p.0 path) (ap begins_in is ∙ p.1) known
+            quiet e g (λ path. ap (λ w. names_path w path) is ∙ p path) known
       ]
         where
           moved : did ≡ Moved (pair_at source target) → IsGoing (shown g) (pair_at source target) → AllUnnamed g ⊎ MovedAt g → AllUnnamed (e ∷ g) ⊎ MovedAt (e ∷ g)
           moved did_is goes (inr m) = absurd (no_value (shown g) goes.some m.1)
           moved did_is goes (inl all) = inr (
-            record { older = g; e = e; id = id; what_is = is ∙ ap (Step id) did_is; still = inl refl; unnamed = all },
+            record { older = g; e = e; id = id; what_is = is ∙ ap (Step id) did_is; spared = inl refl; unnamed = all },
             ap (λ (v : View). (v source).value) at.shows ∙ (ap (λ d. (replayed_step (log_prefix opening e.calls end) d (Some at.item) (shown g) source).value) did_is ∙ gone_then (shown g) goes.apart),
           )
 
@@ -172,64 +151,35 @@ module _ (opening : CallLog) (tree : IsTree (current opening)) (settled : all_se
       by (Step id did) is =
           let at : AtStep opening tree settled end e g id did = at_step opening tree settled end e g id did first is in
           stepped id did is at (subst (λ i. StepFact i (shown g) at.part did) (subst (AllLive (λ i. i ≡ Moves source target)) at.live (live_since begun (λ i. i ≡ Moves source target) its g since)).0 at.fact)
-      by (event.Began id plan background) is = quiet e g (λ path. ap (λ w. names_path w path) is) (ap begins_in is) known
-      by (Order id order) is = quiet e g (λ path. ap (λ w. names_path w path) is) (ap begins_in is) known
-      by (Next id plan) is = quiet e g (λ path. ap (λ w. names_path w path) is) (ap begins_in is) known
-      by (Key key time refusals lost) is = quiet e g (λ path. ap (λ w. names_path w path) is) (ap begins_in is) known
-      by (Look refusals) is = quiet e g (λ path. ap (λ w. names_path w path) is) (ap begins_in is) known
-      by Sought is = quiet e g (λ path. ap (λ w. names_path w path) is) (ap begins_in is) known
-      by Closed is = quiet e g (λ path. ap (λ w. names_path w path) is) (ap begins_in is) known
+      by (event.Began id plan background) is = quiet e g (λ path. ap (λ w. names_path w path) is) known
+      by (Order id order) is = quiet e g (λ path. ap (λ w. names_path w path) is) known
+      by (Next id plan) is = quiet e g (λ path. ap (λ w. names_path w path) is) known
+      by (Key key time refusals lost) is = quiet e g (λ path. ap (λ w. names_path w path) is) known
+      by (Look refusals) is = quiet e g (λ path. ap (λ w. names_path w path) is) known
+      by Sought is = quiet e g (λ path. ap (λ w. names_path w path) is) known
+      by Closed is = quiet e g (λ path. ap (λ w. names_path w path) is) known
 
   pub moves_at : (g : List Entry) → First g → IsAtSince begun g → AllUnnamed g ⊎ MovedAt g
   moves_at [] first since = inl (λ path. since)
   moves_at (e ∷ g) first (inl same) = inl (λ path. inl same)
   moves_at (e ∷ g) first (inr (none, since)) = extended e g first since (moves_at g (before_newest opening tree settled end e g first) since)
 
-  -- and where other sources were taken up, but no change was begun for them
-  abbrev IsQuiet : List Entry → Type 0
-  IsQuiet g = IsAtSince begun g ⊎ NoPart (live_jobs g)
+  in_move : (g : List Entry) → First g → IsAtSince begun g → AllSpared g ⊎ MovedIn g
+  in_move g first since = elim (moves_at g first since) [ inl all ↦ inl (λ path on. all path) | inr m ↦ inr m.0 ]
 
-  in_move : (g : List Entry) → First g → IsAtSince begun g → AllUnnamed g ⊎ MovedIn g
-  in_move g first since = elim (moves_at g first since) [ inl all ↦ inl all | inr m ↦ inr m.0 ]
+  -- and where other sources were taken up, but no such path was named for them
+  stays : (e : Entry) (g : List Entry) → Spares source target e.what → AllSpared g ⊎ MovedIn g → AllSpared (e ∷ g) ⊎ MovedIn (e ∷ g)
+  stays e g spares (inl all) = inl (λ path on. inr (spares path on, all path on))
+  stays e g spares (inr m) = inr (record { older = m.older; e = m.e; id = m.id; what_is = m.what_is; spared = inr (spares, m.spared); unnamed = m.unnamed })
 
-  taken : (e : Entry) (g : List Entry) → First (e ∷ g) → (item : ItemOfJob) → taken_by e.what ≡ Some item → NoPart (live_jobs (e ∷ g))
-  taken e g first item is = by first.traced
-    where
-      by : IsTraced opening (e ∷ g) first.stand first.now → NoPart (live_jobs (e ∷ g))
-      by (was, before, traced, f) = just_bare item (live_jobs (e ∷ g)) (taken_live opening tree settled g was before traced e.what f.after first.now item f.leads is)
-
-  -- a step that begins no change, where no part stands
-  quiet_step : (e : Entry) (g : List Entry) → First (e ∷ g) → NoPart (live_jobs g) → begins_in e.what ≡ false → (path : Route) → names_path e.what path ≡ false
-  quiet_step e g first bare still path = by e.what refl
-    where
-      by : (what : Event) → e.what ≡ what → names_path e.what path ≡ false
-      by (Step id did) is =
-          let at : AtStep opening tree settled end e g id did = at_step opening tree settled end e g id did first is in
-          let none : at.part ≡ None = (subst NoPart at.live bare).0 in
-          ap (λ w. names_path w path) is ∙ quiet_names (shown g) at.item did (subst (λ o. StepFact at.item (shown g) o did) none at.fact) (sym (ap begins_in is) ∙ still) path
-      by (event.Began id plan background) is = ap (λ w. names_path w path) is
-      by (Order id order) is = ap (λ w. names_path w path) is
-      by (Next id plan) is = ap (λ w. names_path w path) is
-      by (Key key time refusals lost) is = ap (λ w. names_path w path) is
-      by (Look refusals) is = ap (λ w. names_path w path) is
-      by Sought is = ap (λ w. names_path w path) is
-      by Closed is = ap (λ w. names_path w path) is
-
-  further : (e : Entry) (g : List Entry) → First (e ∷ g) → (begins_in e.what ≡ false) ⊎ IsAtSince begun g → IsQuiet g × (AllUnnamed g ⊎ MovedIn g) → IsQuiet (e ∷ g) × (AllUnnamed (e ∷ g) ⊎ MovedIn (e ∷ g))
-  further e g first how known = elim (taken_either e.what) [
-    | inl none ↦ by none known.0 how
-    | inr (item, is) ↦ (let t = takes_names e.what item is in (inr (taken e g first item is), stays e g t.0 t.1 known.1))
+  further : (e : Entry) (g : List Entry) → First (e ∷ g) → Spares source target e.what ⊎ IsAtSince begun g → AllSpared g ⊎ MovedIn g → AllSpared (e ∷ g) ⊎ MovedIn (e ∷ g)
+  further e g first (inl spares) known = stays e g spares known
+  further e g first (inr since) known = elim (taken_either e.what) [
+    | inl none ↦ in_move (e ∷ g) first (inr (none, since))
+    | inr (item, is) ↦ stays e g (λ path on. takes_names e.what item is path) known
   ]
-    where
-      here : taken_by e.what ≡ None → IsAtSince begun g → IsQuiet (e ∷ g) × (AllUnnamed (e ∷ g) ⊎ MovedIn (e ∷ g))
-      here none since = (inl (inr (none, since)), in_move (e ∷ g) first (inr (none, since)))
 
-      by : taken_by e.what ≡ None → IsQuiet g → (begins_in e.what ≡ false) ⊎ IsAtSince begun g → IsQuiet (e ∷ g) × (AllUnnamed (e ∷ g) ⊎ MovedIn (e ∷ g))
-      by none (inl since) how = here none since
-      by none (inr bare) (inr since) = here none since
-      by none (inr bare) (inl still) = (inr (event_bare e.what (live_jobs g) none still bare), stays e g (quiet_step e g first bare still) still known.1)
-
-  pub moves_since : (g : List Entry) → First g → LastsSince begun begins_in g → IsQuiet g × (AllUnnamed g ⊎ MovedIn g)
-  moves_since [] first since = (inl since, inl (λ path. since))
-  moves_since (e ∷ g) first (inl same) = (inl (inl same), inl (λ path. inl same))
+  pub moves_since : (g : List Entry) → First g → LastsSince begun (Spares source target) g → AllSpared g ⊎ MovedIn g
+  moves_since [] first since = inl (λ path on. since)
+  moves_since (e ∷ g) first (inl same) = inl (λ path on. inl same)
   moves_since (e ∷ g) first (inr (how, since)) = further e g first how (moves_since g (before_newest opening tree settled end e g first) since)

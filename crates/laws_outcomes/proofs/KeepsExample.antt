@@ -110,7 +110,7 @@ replaced_file image left =
     k : KeepsFiles (asked.log []) asked.begun_entries replaced.placed_entries replaced.placed_entries image
     k = keeps_law (asked.log []) replaced.done_log (replaced.end ∷ replaced.done_entries) (stand [] []) asked.small_tree refl replaced.ended_traced asked.begun_entries replaced.placed_entries replaced.placed_entries 4 image (inr (inr (inr (inr (inl (refl, refl, refl)))))) left
 
-    since : LastsSince asked.begun_entries (λ what. names_path what asked.target) replaced.placed_entries
+    since : LastsSince asked.begun_entries (λ what. names_path what asked.target ≡ false) replaced.placed_entries
     since = inr (inr (inr (refl, inr (refl, inr (refl, inr (refl, inl refl))))), inr (inr (inr (refl, inr (refl, inr (refl, inl refl)))), inr (inr (inr (refl, inr (refl, inl refl))), inr (inr (inr (refl, inl refl)), inr (inr (inl refl), inl refl)))))
 
 -- a folder is made, and a link: nothing stands there, or what is made

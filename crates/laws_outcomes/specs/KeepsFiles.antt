@@ -11,7 +11,7 @@ use Rattle.job_reports.specs.Jobs.{ItemOfJob, Copies, Moves}
 use Rattle.session_entries.specs.declared.history.Entry.{Entry}
 use Rattle.session_entries.specs.Named.{names_path}
 use Rattle.laws_sessions.specs.Doubt.{is_unsettled}
-use Rattle.laws_sessions.specs.Whole.{begins_in}
+use Rattle.laws_sessions.specs.Whole.{Spares}
 use Rattle.laws_outcomes.specs.Touched.{IsPartAt, IsUntouched, LastsSince, WasPart}
 use Rattle.laws_outcomes.specs.Touched.{came_from, is_removed, is_target, taken_up}
 use Rattle.laws_outcomes.specs.Arrivals.{new_things, over_things}
@@ -27,8 +27,8 @@ pub record IsPromised (log : CallLog) (begun : List Entry) (path : Route) : Type
 -- No step named it since another source was taken up; and where nothing stood it was never a part.
 pub record IsLeft (log : CallLog) (begun standing coming : List Entry) (path : Route) : Type 0 where
   pub firm : IsPromised log begun path
-  pub since : LastsSince begun (λ what. names_path what path) standing
-  pub later : LastsSince begun (λ what. names_path what path) coming
+  pub since : LastsSince begun (λ what. names_path what path ≡ false) standing
+  pub later : LastsSince begun (λ what. names_path what path ≡ false) coming
   pub bare : stood log path ≡ None → WasPart coming path → ⊥
 
 pub record KeepsFiles (log : CallLog) (begun standing coming : List Entry) (image : FileSystem) : Type 0 where
@@ -45,9 +45,10 @@ pub record KeepsFiles (log : CallLog) (begun standing coming : List Entry) (imag
   pub new : (i : ItemOfJob) (path : Route) (x : Value) → taken_up begun ≡ Some i → is_target i path ≡ true
       → stood log path ≡ None → IsLeft log begun standing coming path → value_at image path ≡ Some x
       → Among (new_things i (stood log) path) x
-  -- What is moved is whole at its source or at its target, with all in it, until another source is changed.
+  -- What is moved is whole at its source or at its target, with all in it, until a step for another source
+  -- names a path that is one of the two, or lies above one or below it.
   pub moved : (from to : Route) → taken_up begun ≡ Some (Moves from to)
-      → LastsSince begun begins_in standing → LastsSince begun begins_in coming
+      → LastsSince begun (Spares from to) standing → LastsSince begun (Spares from to) coming
       → (there : Route) × ((there ≡ from) ⊎ (there ≡ to)) × ((rest : Route)
       → IsPromised log begun (rest ++ from) → value_at image (rest ++ there) ≡ stood log (rest ++ from))
   -- What is deleted is whole, or gone.

@@ -68,12 +68,12 @@ IsAtSince first [] = first ≡ []
 IsAtSince first (e ∷ entries) =
     (first ≡ e ∷ entries) ⊎ ((taken_by e.what ≡ None) × IsAtSince first entries)
 
--- these entries are the first ones with more on top, of which none is such once a source was taken up
-abbrev pub LastsSince : List Entry → (Event → Bool) → List Entry → Type 0
-LastsSince first is_such [] = first ≡ []
-LastsSince first is_such (e ∷ entries) =
+-- these entries are the first ones with more on top, each of which is so still once a source was taken up
+abbrev pub LastsSince : List Entry → (Event → Type 0) → List Entry → Type 0
+LastsSince first IsStill [] = first ≡ []
+LastsSince first IsStill (e ∷ entries) =
     (first ≡ e ∷ entries)
-    ⊎ (((is_such e.what ≡ false) ⊎ IsAtSince first entries) × LastsSince first is_such entries)
+    ⊎ ((IsStill e.what ⊎ IsAtSince first entries) × LastsSince first IsStill entries)
 
 -- the path is a part's after these entries, or an ended job left one there
 abbrev pub IsPartAt : List Entry → Route → Type 0

@@ -211,6 +211,7 @@ module _ (said : HistoryFacts) (dirty : List Route) (marks : Marks) (log : CallL
     ];
     joint = k.joint;
     doubts = k.doubts;
+    written = k.written;
     stand = k.stand;
   }
     where

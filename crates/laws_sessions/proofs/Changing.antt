@@ -1,5 +1,5 @@
 -- The removal of a thing that holds nothing, a file or an empty folder; and what changes of names have in common.
-use Rattle.std.proofs.Common.{◌≡◌, ◌⊎◌, ℕ, ◌<◌, Bool, true, false, ◌||◌, List, [], ◌∷◌, ◌++◌, length, refl, sym, ◌∙◌, ap, subst, inl, inr, Option, Some, None, cond}
+use Rattle.std.proofs.Common.{◌≡◌, ◌⊎◌, ℕ, ◌<◌, Bool, true, false, ◌||◌, List, [], ◌∷◌, ◌++◌, length, refl, sym, ◌∙◌, ap, subst, inl, inr, Option, Some, None, cond, drop}
 use Rattle.std.specs.Prelude.{is_some, option_and_then}
 use Rattle.std.specs.Option.{option_map, option_map_or}
 use Rattle.std.proofs.lemmas.Bool.{false≢true, true≢false, both_ways, false_from_ne_true}
@@ -29,6 +29,7 @@ use Rattle.laws_sessions.proofs.Resting.{IsBeside, IsSureFolder, joint_still, un
 use Rattle.laws_sessions.proofs.Restless.{is_restless, restless_less}
 use Rattle.laws_sessions.proofs.RoamingFolders.{roaming_still}
 use Rattle.laws_sessions.proofs.WaitsFor.{names_said}
+use Rattle.laws_sessions.proofs.Since.{clean_since, pending_since, renamed_since}
 
 -- where nothing stands nothing is seen
 pub seen_nowhere : (s : FileSystem) (p : Route) → find s p ≡ None → visible_tree s p ≡ nowhere
@@ -72,8 +73,9 @@ pub record SaysGone (said after : HistoryFacts) (marks : Marks) (log : CallLog) 
   pub gone : after.tree path ≡ nowhere
   pub was : marks.aside path ≡ false → held (current log) (marks.was path) ≡ (after.earlier path).value
   pub part : after.part ≡ None
-  pub doubts : (p : Route) → said.doubt p ≡ true → after.doubt p ≡ true
-  pub doubted : after.doubt path ≡ true
+  pub doubts : (n : ℕ) (p : Route) → said.doubt n p ≡ true → after.doubt n p ≡ true
+  pub doubted : (n : ℕ) → after.doubt n path ≡ true
+  pub spared : (n : ℕ) (p : Route) → after.written n p ≡ false → said.written n p ≡ false
   -- a folder that is said to be on the disk is another one, and it was said so before, or it is
   pub folders : (p : Route) → after.folders p ≡ true → (same_path p path ≡ false) × ((said.folders p ≡ true) ⊎ IsSureFolder log p)
   pub modes : (p : Route) → said.modes p ≡ true → after.modes p ≡ true
@@ -170,29 +172,29 @@ module _ (told after : HistoryFacts) (dirty dirty_after : List Route) (marks : M
       of_listed g q among at true same = inr (removed_unreached g (subst (λ p. find (current log) p ≡ Some g) (same_path-true q path same) at))
       of_listed g q among at false off = inl (q, more q among off, off_path q off ∙ at)
 
-  doubts : (p : Route) → name_waits now p ≡ true → after.doubt p ≡ true
-  doubts [] waits = absurd (false≢true waits)
-  doubts (name ∷ q) waits = by (find (current now) q) refl
+  doubts : (n : ℕ) (p : Route) → renamed_since n now p ≡ true → after.doubt n p ≡ true
+  doubts n [] waits = absurd (false≢true waits)
+  doubts n (name ∷ q) waits = by (find (current now) q) refl
     where
-      in_now : (o : Option ℕ) → find (current now) q ≡ o → option_map_or (λ g. is_pending g name now.changes) o false ≡ true
-      in_now o is = sym (ap (λ x. option_map_or (λ g. is_pending g name now.changes) x false) is) ∙ waits
+      in_now : (o : Option ℕ) → find (current now) q ≡ o → option_map_or (λ g. is_pending g name (drop n now.changes)) o false ≡ true
+      in_now o is = sym (ap (λ x. option_map_or (λ g. is_pending g name (drop n now.changes)) x false) is) ∙ waits
 
-      waited : (g : ℕ) → find (current now) q ≡ Some g → is_pending g name log.changes ≡ true → after.doubt (name ∷ q) ≡ true
+      waited : (g : ℕ) → find (current now) q ≡ Some g → is_pending g name (drop n log.changes) ≡ true → after.doubt n (name ∷ q) ≡ true
       waited g is old = elim (found_then q) [
-        | inl same ↦ says.doubts (name ∷ q) (known.doubts (name ∷ q) (ap (λ x. option_map_or (λ h. is_pending h name log.changes) x false) (sym same ∙ is) ∙ old))
+        | inl same ↦ says.doubts n (name ∷ q) (known.doubts n (name ∷ q) (ap (λ x. option_map_or (λ h. is_pending h name (drop n log.changes)) x false) (sym same ∙ is) ∙ old))
         | inr gone ↦ absurd (no_path q g is gone)
       ]
 
-      new : (g : ℕ) → find (current now) q ≡ Some g → is_some (says_of removes 0 g name) ≡ true → after.doubt (name ∷ q) ≡ true
+      new : (g : ℕ) → find (current now) q ≡ Some g → is_some (says_of removes 0 g name) ≡ true → after.doubt n (name ∷ q) ≡ true
       new g is said =
           let s = says_it g name said in
           let q_is : r.up ≡ q = find-once (current now) naming.tree r.up q r.f stands (is ∙ ap (λ h. Some h) (sym s.0)) in
           let same : path ≡ name ∷ q = r.path_is ∙ (ap (λ n. (let l : Route = n ∷ r.up in l)) s.1 ∙ ap (λ (p : Route). name ∷ p) q_is) in
-          subst (λ p. after.doubt p ≡ true) same says.doubted
+          subst (λ p. after.doubt n p ≡ true) same (says.doubted n)
 
-      by : (o : Option ℕ) → find (current now) q ≡ o → after.doubt (name ∷ q) ≡ true
+      by : (o : Option ℕ) → find (current now) q ≡ o → after.doubt n (name ∷ q) ≡ true
       by None is = absurd (false≢true (in_now None is))
-      by (Some g) is = elim (pending_less g name log.changes removes (in_now (Some g) is)) [ inl old ↦ waited g is old | inr said ↦ new g is said ]
+      by (Some g) is = elim (pending_since n g name log.changes removes (in_now (Some g) is)) [ inl old ↦ waited g is old | inr said ↦ new g is said ]
 
   -- this path, or another
   abbrev Where : Route → Type 0
@@ -305,5 +307,9 @@ module _ (told after : HistoryFacts) (dirty dirty_after : List Route) (marks : M
     tracked = tracked;
     joint = joint;
     doubts = doubts;
+    written = λ n p i other off at. elim (where_is p) [
+      | inl here ↦ absurd (no_path p i at (ap (find (current now)) here ∙ gone_path))
+      | inr away ↦ clean_since n i log.changes removes refl (known.written n p i (says.off p away).2 (says.spared n p off) (sym (off_path p away) ∙ at))
+    ];
     stand = stand;
   }

@@ -2,7 +2,7 @@
 use Rattle.std.proofs.Common.{◌≡◌, ℕ, ◌≤◌, ◌+◌, zero, suc, Bool, true, false, List, [], ◌∷◌, ◌++◌, length, refl, sym, ◌∙◌, ap, subst, inl, inr, Option, Some, None, Ok, Err, arith}
 use Rattle.std.specs.Prelude.{is_some, unwrap_or, pos}
 use Rattle.std.specs.Option.{option_map_or}
-use Rattle.std.proofs.lemmas.Bool.{both_ways, false_from_ne_true, or_left, or_right}
+use Rattle.std.proofs.lemmas.Bool.{both_ways, false_from_ne_true, or_left, or_right, or_parts}
 use Rattle.mc_text.specs.Routes.{Route, same_path}
 use Rattle.tree_trait.specs.declared.file_system.Node.{Node}
 use Rattle.tree_trait.specs.declared.file_system.FileSystem.{FileSystem}
@@ -111,11 +111,12 @@ part_cleaned told dirty marks log now work target part i kept has listed firm do
           gone = (kept.known.part part has.part_is).1;
           was = λ out. absurd (both_ways _ out aside);
           part = refl;
-          doubts = λ p h. or_left _ _ h;
+          doubts = λ n p h. or_left _ _ h;
+          spared = λ n p off. (or_parts (told.written n p) (same_path p part) off).0;
           folders = λ p there. (no_file p (kept.known.stand p there).stands, inl there);
           modes = λ p h. h;
           calm = λ p h. inl h;
-          doubted = or_right _ _ (same_path-self part);
+          doubted = λ n. or_right _ _ (same_path-self part);
         }) (λ out. absurd (both_ways _ out aside)) kept.roams (way it) (none_of_part told dirty marks log kept part it.r.i (removal_leads log now part it) aside)
         (file_unjoined log now part it kept.known.guarded.tree kept.known.files (ap (λ o. option_map_or (λ j. is_folder (node (current log) j)) o false) has.leads ∙ ap folder_kind has.file))
         (subst (λ q. Among dirty q) (sym folder_is ∙ ap folder_of it.r.path_is) listed) (λ q among off. among) in

@@ -1,6 +1,6 @@
 -- A removal keeps what is known, of a file and of an empty folder.
 use Rattle.std.proofs.Common.{◌≡◌, ◌⊎◌, ℕ, Bool, true, false, not, ◌&&◌, ◌||◌, List, [], ◌∷◌, refl, sym, ◌∙◌, ap, subst, inl, inr, Option, Some, None, Ok, cond}
-use Rattle.std.proofs.lemmas.Bool.{both_ways, false≢true, false_from_ne_true, or_left, or_right}
+use Rattle.std.proofs.lemmas.Bool.{both_ways, false≢true, false_from_ne_true, or_left, or_right, or_parts}
 use Rattle.mc_text.specs.Routes.{Route, same_path}
 use Rattle.tree_trait.specs.declared.file_system.FileSystem.{FileSystem}
 use Rattle.tree_trait.specs.FileSystem.{Value, Spot, View, find, node, starts_mount, view_with, visible_tree}
@@ -144,11 +144,12 @@ removes_thing told dirty dirty_after marks log now path work knows kept none was
       gone = put_at told.tree path None ∙ ap (λ b. (let s : Spot = record { value = None; is_mount = b } in s)) mountless;
       was = λ out. ap (held (current log)) (was out) ∙ (sym (ap (λ (s : Spot). s.value) shown) ∙ sym (ap (λ (s : Spot). s.value) (put_at told.earlier path (told.tree path).value)));
       part = none;
-      doubts = λ p h. or_left _ _ h;
+      doubts = λ n p h. or_left _ _ h;
+      spared = λ n p off. (or_parts (told.written n p) (same_path p path) off).0;
       folders = folder_said;
       modes = λ p h. h;
       calm = λ p h. elim (either (may_change (item_in work) p) (told.calm p) h) [ inl here ↦ inr (calm p here) | inr before ↦ inl before ];
-      doubted = or_right _ _ (same_path-self path);
+      doubted = λ n. or_right _ _ (same_path-self path);
     }) was kept.roams (ap (λ q. way_waits log (folder_of q)) (sym it.r.path_is) ∙ sure) (no_mode it.r.i (removal_leads log now path it) it.mountless) (λ g. apart it.r.i g (removal_leads log now path it)) (subst (λ q. Among dirty_after (folder_of q)) it.r.path_is listed) more))
     known_of
   where

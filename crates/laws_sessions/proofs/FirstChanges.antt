@@ -38,6 +38,7 @@ use Rattle.laws_sessions.proofs.Reports.{JobsKnow}
 use Rattle.laws_sessions.specs.Owed.{FirstChangeLaw, IsOwed}
 use Rattle.laws_sessions.specs.Traces.{IsJob, IsTraced, JobSteps, Stand, WorkLeads, unless_ended, with_job}
 use Rattle.laws_sessions.proofs.Histories.{IsReached, traced_reached}
+use Rattle.laws_sessions.proofs.Since.{renamed_since, since_first}
 
 -- of a job that has changed nothing no part stands
 module _ (told : HistoryFacts) (dirty : List Route) (marks : Marks) (log : CallLog) (course : Course) (going : is_over course ≡ false) where
@@ -135,7 +136,7 @@ module _ (opening log now : CallLog) (older : List Entry) (was : Stand) (dirty_a
         (record { made = c.made; now_is = c.now_is; mids = c.mids; marks = c.marks; kept = c.kept; known_of = tt })
 
     moved_names : (path : Route) → name_waits log path ≡ false → (same_path path pair.source || same_path path pair.target) ≡ false → name_waits now path ≡ false
-    moved_names path sure off = (let c = come in unsaid _ path (neither_is (name_waits log path) _ sure off) dirty_after c.marks now c.kept)
+    moved_names path sure off = (let c = come in unsaid _ path (neither_is (renamed_since 0 log path) _ (since_first log path ∙ sure) off) dirty_after c.marks now c.kept)
 
     moved_modes : (path : Route) → node_waits log path ≡ false → node_waits now path ≡ true → Among (named_by did others (left_parts older) (named_parts older)) path
     moved_modes path sure waits =

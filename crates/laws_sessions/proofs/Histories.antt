@@ -2,7 +2,7 @@
 use Rattle.std.proofs.Common.{◌≡◌, ℕ, ◌+◌, Bool, true, false, ◌||◌, List, [], ◌∷◌, length, take, refl, sym, ◌∙◌, ap, subst, inl, Option, Some, None, arith}
 use Rattle.std.specs.Prelude.{if◌then◌else◌}
 use Rattle.std.specs.Option.{option_map_or}
-use Rattle.std.proofs.lemmas.Bool.{false≢true, eq-eqb}
+use Rattle.std.proofs.lemmas.Bool.{false≢true, true≢false, eq-eqb}
 use Rattle.std.proofs.Math.Seq.{take-length}
 use Rattle.mc_text.specs.Routes.{Route}
 use Rattle.tree_trait.specs.Shape.{IsTree}
@@ -31,14 +31,14 @@ use Rattle.laws_sessions.specs.Replayed.{earlier_tree, log_prefix, replayed_even
 use Rattle.laws_sessions.specs.Traces.{EventLeads, Follows, IsTraced, Stand, if_closed}
 use Rattle.laws_sessions.proofs.Prefixes.{AreWithin, calm_event, calm_told, earlier_more, folders_event, folders_told, replayed_more, said_by, told_more, told_of, told_with, within_more}
 use Rattle.laws_sessions.proofs.Going.{Goes, closed_know, closed_live, event_goes}
-use Rattle.laws_sessions.proofs.Knowing.{HistoryFacts, IsKept, anywhere}
+use Rattle.laws_sessions.proofs.Knowing.{any_since, anywhere, HistoryFacts, IsKept}
 use Rattle.laws_sessions.proofs.NamedMore.{jobs_naming, kept_naming, naming}
 use Rattle.laws_sessions.proofs.Pending.{pending_settled}
 use Rattle.laws_sessions.proofs.WaitsFor.{joint_settled, restless_settled}
 use Rattle.laws_sessions.proofs.Reports.{HasLive, JobsKnow}
 use Rattle.laws_sessions.proofs.Sources.{item_in}
 use Rattle.laws_sessions.proofs.StillParts.{named_more}
-use Rattle.laws_sessions.proofs.Stepped.{AreMids, calm_by, doubt_by, folders_by, modes_by, more, no_other, part_after, said_after}
+use Rattle.laws_sessions.proofs.Stepped.{AreMids, calm_by, doubt_by, folders_by, modes_by, more, no_other, part_after, said_after, written_by}
 
 -- what holds after these entries
 pub record IsReached (opening : CallLog) (g : List Entry) (stand : Stand) (now : CallLog) : Type 0 where
@@ -50,7 +50,7 @@ pub record IsReached (opening : CallLog) (g : List Entry) (stand : Stand) (now :
   pub within : AreWithin opening g now
 
 -- a change of any path may wait after a report, where it might before
-doubt_anywhere : (did : Did) (part : Option Route) → doubt_by did part anywhere ≡ anywhere
+doubt_anywhere : (did : Did) (part : Option Route) → doubt_by did part any_since ≡ any_since
 doubt_anywhere (Ended ending left) part = refl
 doubt_anywhere (reported.Began made) part = refl
 doubt_anywhere (reported.Placed path) part = refl
@@ -66,6 +66,25 @@ doubt_anywhere (reported.Moved pair) part = refl
 doubt_anywhere (reported.Skipped path cause) part = refl
 doubt_anywhere reported.Barrier part = refl
 doubt_anywhere (reported.Troubled trouble) part = refl
+
+-- nor does it hang on the report where something may have been altered
+written_anywhere : (did : Did) → written_by did any_since ≡ any_since
+written_anywhere (Ended ending (Some left)) = refl
+written_anywhere (Ended ending None) = refl
+written_anywhere (reported.Began made) = refl
+written_anywhere (reported.Placed path) = refl
+written_anywhere (reported.Removed path) = refl
+written_anywhere (reported.Cleaned gone) = refl
+written_anywhere (reported.Chunk count) = refl
+written_anywhere (reported.Set path) = refl
+written_anywhere (reported.Made made) = refl
+written_anywhere (reported.Kept kept) = refl
+written_anywhere (reported.Asked question) = refl
+written_anywhere (reported.Merges transfer pair names) = refl
+written_anywhere (reported.Moved pair) = refl
+written_anywhere (reported.Skipped path cause) = refl
+written_anywhere reported.Barrier = refl
+written_anywhere (reported.Troubled trouble) = refl
 
 -- nor does it hang on the report of which paths a mode may wait, where it may of any
 modes_anywhere : (did : Did) → modes_by did anywhere ≡ anywhere
@@ -163,8 +182,9 @@ module _ (opening : CallLog) (older : List Entry) (calls : ℕ) (was : Stand) (b
         (ap (λ v. Rattle.laws_sessions.specs.Replayed.earlier_step did v (earlier_tree opening now older)) tree
         ∙ ap (Rattle.laws_sessions.specs.Replayed.earlier_step did (replayed_tree opening before older)) earlier)
         ∙ (ap (λ o. said_by (option_map_or (λ item. folders_by did (folder_changed item) (folders_told opening older)) o (folders_told opening older)) (option_map_or (λ item. calm_by did item (calm_told older)) o (calm_told older)) (replayed_step now did (Some (item_in job.work)) (replayed_tree opening before older)) (Rattle.laws_sessions.specs.Replayed.earlier_step did (replayed_tree opening before older) (earlier_tree opening before older)) (named_by did no_other (left_parts older) (named_parts older)) (left_by did (left_parts older)) (part_after did r.part)) item_is
-        ∙ (ap (λ d. (let t : HistoryFacts = record (said_after now did job.work told) { doubt = d; modes = anywhere } in t)) (sym (doubt_anywhere did r.part))
-        ∙ ap (λ m. (let t : HistoryFacts = record (said_after now did job.work told) { modes = m } in t)) (sym (modes_anywhere did))))
+        ∙ (ap (λ d. (let t : HistoryFacts = record (said_after now did job.work told) { doubt = d; written = any_since; modes = anywhere } in t)) (sym (doubt_anywhere did r.part))
+        ∙ (ap (λ w. (let t : HistoryFacts = record (said_after now did job.work told) { written = w; modes = anywhere } in t)) (sym (written_anywhere did))
+        ∙ ap (λ m. (let t : HistoryFacts = record (said_after now did job.work told) { modes = m } in t)) (sym (modes_anywhere did)))))
 
     stepped : (after : Stand) (n : Led (Step id did) after now) → (let x : Led (Step id did) after now = n in x.said_then) ≡ said_after now did job.work told → Entered (Step id did) after now
     stepped after n then_is = record {
@@ -248,7 +268,8 @@ module _ (opening : CallLog) (tree : IsTree (current opening)) (settled : all_se
       part = λ p is. absurd (let f : ⊥ = cc in f);
       tracked = λ f restless. absurd (false≢true (sym (restless_settled f opening.changes settled) ∙ restless));
       joint = λ f g up joint at. absurd (false≢true (sym (joint_settled f g opening.changes settled) ∙ joint));
-      doubts = λ p waits. refl;
+      doubts = λ n p waits. refl;
+      written = λ n p i other off at. absurd (true≢false off);
       stand = λ p there. record { stands = there; sure = none_unsettled p };
     };
     aside = λ p is. absurd (false≢true is);

@@ -96,6 +96,7 @@ module _ (path : Route) (v : Option Value) (told : HistoryFacts) where
       tracked = kept.known.tracked;
       joint = kept.known.joint;
       doubts = kept.known.doubts;
+      written = kept.known.written;
       stand = kept.known.stand;
     };
     aside = kept.aside;

@@ -1,7 +1,7 @@
 -- A job that has changed nothing knows the same, whatever is dirty; and a job ends, with the part that stands, if one does, also out of memory.
 use Rattle.std.proofs.Common.{◌≡◌, ℕ, Bool, true, false, List, refl, sym, ◌∙◌, ap, subst, inl, inr, Option, Some, None}
 use Rattle.std.specs.Option.{option_map_or}
-use Rattle.std.proofs.lemmas.Bool.{both_ways}
+use Rattle.std.proofs.lemmas.Bool.{both_ways, or_parts}
 use Rattle.mc_text.specs.Routes.{Route, same_path}
 use Rattle.tree_trait.specs.FileSystem.{Spot, find, starts_mount, value_at, visible_tree}
 use Rattle.tree_trait.specs.Change.{CallLog, current}
@@ -93,6 +93,9 @@ module _ (told : HistoryFacts) (dirty dirty_after : List Route) (marks : Marks) 
           tracked = kept.known.tracked;
           joint = kept.known.joint;
           doubts = kept.known.doubts;
+          written = λ n p i other off at.
+              let both = or_parts (told.written n p) (same_path p part) off in
+              kept.known.written n p i (λ e. both_ways _ both.1 (subst (λ q. same_path q part ≡ true) (some_route part p (sym has.part_is ∙ e)) (Rattle.tree_trait.proofs.Visible.same_path-self part))) both.0 at;
           stand = kept.known.stand;
         };
         aside = kept.aside;

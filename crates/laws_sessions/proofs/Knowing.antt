@@ -1,5 +1,5 @@
 -- What is known of a tree at each moment of a session: of each path what it shows, and what it may lead to after a crash.
-use Rattle.std.proofs.Common.{◌≡◌, ◌⊎◌, ℕ, ◌<◌, Bool, true, false, not, ◌&&◌, ◌||◌, List, ◌∷◌, length, refl, sym, ◌∙◌, ap, subst, inl, inr, Option, Some, None, cond}
+use Rattle.std.proofs.Common.{◌≡◌, ◌⊎◌, ℕ, ◌<◌, Bool, true, false, not, ◌&&◌, ◌||◌, List, ◌∷◌, length, refl, sym, ◌∙◌, ap, subst, inl, inr, Option, Some, None, cond, drop}
 use Rattle.std.specs.Prelude.{is_some}
 use Rattle.std.specs.Option.{option_map, option_map_or}
 use Rattle.std.proofs.lemmas.Bool.{true≢false, false≢true, and_from, and_parts, both_ways, not-false, or_cases, or_left, or_right}
@@ -17,17 +17,19 @@ use Rattle.laws_sessions.specs.Doubt.{is_unsettled, name_waits, node_waits, way_
 use Rattle.laws_sessions.proofs.InTransit.{WasRenamed, is_in_transit, one_name}
 use Rattle.laws_sessions.proofs.Resting.{IsBeside, IsOfFiles, IsSureFolder, settled_unless}
 use Rattle.laws_sessions.proofs.Restless.{IsUnjoined, is_restless}
+use Rattle.laws_sessions.proofs.Since.{renamed_since}
 
 -- what a history says: what each path shows, what it showed before its last change, the paths that were named as parts, the parts that
--- ended jobs left, the part that stands, of which names a change may wait for a sync, and where folders are known to stand on the disk; of which paths a mode may
--- wait, and the folders in which none does
+-- ended jobs left, the part that stands, of which names a change may wait for a sync that was made after so many calls, and at which paths something may have been
+-- altered after them; where folders are known to stand on the disk; of which paths a mode may wait, and the folders in which none does
 pub record HistoryFacts : Type 0 where
   pub tree : View
   pub earlier : View
   pub named : List Route
   pub left : List Route
   pub part : Option Route
-  pub doubt : Route → Bool
+  pub doubt : ℕ → Route → Bool
+  pub written : ℕ → Route → Bool
   pub folders : Route → Bool
   pub modes : Route → Bool
   pub calm : Route → Bool
@@ -35,6 +37,10 @@ pub record HistoryFacts : Type 0 where
 -- of any path
 abbrev pub anywhere : Route → Bool
 anywhere p = true
+
+-- and after any call
+abbrev pub any_since : ℕ → Route → Bool
+any_since n = anywhere
 
 -- what can be seen of a node
 abbrev pub held : FileSystem → Option ℕ → Option Value
@@ -89,7 +95,9 @@ pub record IsKnown (said : HistoryFacts) (dirty : List Route) (marks : Marks) (l
   pub tracked : (f : ℕ) → is_restless f log.changes ≡ true → ((up : Route) × Among dirty up × (find (current log) up ≡ Some f)) ⊎ IsUnreached log f
   -- two folders for which a renaming waits lie on one mount
   pub joint : (f g : ℕ) (up : Route) → is_joint f g log.changes ≡ true → find (current log) up ≡ Some f → IsBeside log up g
-  pub doubts : (p : Route) → name_waits log p ≡ true → said.doubt p ≡ true
+  pub doubts : (n : ℕ) (p : Route) → renamed_since n log p ≡ true → said.doubt n p ≡ true
+  -- a call alters nothing that can be seen but the part that stands, and what a report names
+  pub written : (n : ℕ) (p : Route) (i : ℕ) → (said.part ≡ Some p → ⊥) → said.written n p ≡ false → find (current log) p ≡ Some i → is_clean i (drop n log.changes) ≡ true
   pub stand : (p : Route) → said.folders p ≡ true → IsSureFolder log p
 
 -- a folder that roams is in transit
@@ -258,6 +266,7 @@ module _ (said : HistoryFacts) (dirty : List Route) (marks : Marks) (log : CallL
       tracked = known.tracked;
       joint = known.joint;
       doubts = known.doubts;
+      written = known.written;
       stand = known.stand;
     };
     aside = λ p h. (aside_of p (marks.aside p) refl h).1;

@@ -6,7 +6,6 @@ pub mod BareSteps
 pub mod BareTargets
 pub mod Beginnings
 pub mod Calm
-pub mod CalmCalls
 pub mod CalmChanges
 pub mod CalmFiles
 pub mod CalmFolders
@@ -126,14 +125,13 @@ pub mod RoamingFolders
 pub mod Resting
 pub mod SetFolders
 pub mod SettingModes
+pub mod Since
 pub mod Sources
+pub mod Spared
 pub mod Staying
 pub mod Stepped
 pub mod StepsKnown
-pub mod StillCopies
-pub mod StillJobs
 pub mod StillParts
-pub mod StillWorks
 pub mod SureThings
 pub mod TextSteps
 pub mod ThingRests
@@ -174,3 +172,4 @@ pub mod WholeExample
 pub mod WholeImages
 pub mod WholeMoments
 pub mod WholeSteps
+pub mod WholeThings

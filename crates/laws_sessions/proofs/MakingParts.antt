@@ -106,6 +106,7 @@ module _ (told : HistoryFacts) (dirty : List Route) (marks : Marks) (log : CallL
     tracked = known.tracked;
     joint = known.joint;
     doubts = known.doubts;
+    written = known.written;
     stand = known.stand;
   }
 
@@ -128,7 +129,8 @@ pub record MakesPart (told : HistoryFacts) (log : CallLog) (name : List ℕ) (up
 abbrev pub with_part : HistoryFacts → Route → (Route → Bool) → Route → HistoryFacts
 with_part told folder own part = record (naming_part told part) {
   part = Some part;
-  doubt = λ p. told.doubt p || same_path p part;
+  doubt = λ n p. told.doubt n p || same_path p part;
+  written = λ n p. told.written n p || same_path p part;
   folders = λ p. (same_path p folder || same_path p (folder_of part)) || told.folders p;
   calm = λ p. own p || told.calm p;
 }
@@ -221,7 +223,9 @@ module _ (told : HistoryFacts) (dirty dirty_after : List Route) (marks : Marks) 
     listed = listed;
     listed_beside = listed;
     more = more;
-    doubts = λ p h. or_left _ _ h;
+    doubts = λ n p h. or_left _ _ h;
+    spared = λ n p off. (neither (told.written n p) (same_path p part) off).0;
+    unwritten = λ n p i at other off there. other (ap (λ q. Some q) (sym (either_is p at)));
     folders = λ p h. elim (either _ _ h) [
       | inl here ↦ inr (elim (either _ _ here) [
         | inl outer ↦ subst (λ q. IsSureFolder log q) (sym (same_path-true p folder outer)) around
@@ -233,7 +237,7 @@ module _ (told : HistoryFacts) (dirty dirty_after : List Route) (marks : Marks) 
     calm = λ p h. elim (either (own p) (told.calm p) h) [ inl here ↦ inr (let still = calm p here in record { modes = still.modes; apart = still.apart }) | inr before ↦ inl before ];
     apart = λ p g h still at. unjoined_within g h makes refl;
     no_mode = λ p i at there. mode_of i (elim there [ inl before ↦ inl (sym (ap (find (current log)) (either_is p at)) ∙ before) | inr then ↦ inr (sym (ap (find (current now)) (either_is p at)) ∙ then) ]);
-    touched = λ p at. or_right _ _ (subst (λ q. same_path q part ≡ true) (sym (either_is p at)) (same_path-self part));
+    touched = λ n p at. or_right _ _ (subst (λ q. same_path q part ≡ true) (sym (either_is p at)) (same_path-self part));
     named = marked.aside;
     left = λ p at is there. inl (ap (λ q. Some q) (sym (either_is p at)));
     lefts = λ p first second among. among;

@@ -1,7 +1,7 @@
 -- Each step of the making of a thing keeps what is known.
 use Rattle.std.proofs.Common.{◌≡◌, ◌⊎◌, ℕ, ℤ, true, false, ◌||◌, List, [], ◌∷◌, refl, sym, ◌∙◌, ap, subst, inl, inr, Option, Some, None, Ok, Err, arith, pos}
 use Rattle.std.specs.Prelude.{option_and_then}
-use Rattle.std.proofs.lemmas.Bool.{both_ways, false_from_ne_true, or_left, or_right}
+use Rattle.std.proofs.lemmas.Bool.{both_ways, false_from_ne_true, or_left, or_right, or_parts}
 use Rattle.mc_text.specs.declared.kind.Kind.TheVariants as kind
 use Rattle.mc_text.specs.Routes.{Route, same_path}
 use Rattle.tree_trait.specs.declared.file_system.Node.{Node}
@@ -135,8 +135,9 @@ module _ (told : HistoryFacts) (dirty dirty_after : List Route) (marks : Marks) 
         ∙ ap (λ v. (let t : Spot = record { value = Some v; is_mount = false } in t)) said_made;
     earlier = ap (λ (s : Spot). s.value) (put_at told.earlier made_path (told.tree made_path).value) ∙ ap (λ (s : Spot). s.value) nothing_told;
     no_part = none;
-    doubts = λ p h. or_left _ _ h;
-    doubted = or_right _ _ (same_path-self made_path);
+    doubts = λ n p h. or_left _ _ h;
+    doubted = λ n. or_right _ _ (same_path-self made_path);
+    spared = λ n p off. or_parts (told.written n p) (same_path p made_path) off;
     modes = λ p h. h;
     calm = λ p there. elim (either (may_change (item_in work) p) (told.calm p) there) [ inl here ↦ inr (calm p here) | inr before ↦ inl before ];
     new_mode = kept.modes (new_node log) (kept.known.files.unborn (new_node log) (omega arith));

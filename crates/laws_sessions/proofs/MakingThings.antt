@@ -1,5 +1,5 @@
 -- The making of a new thing: an empty folder or a link.
-use Rattle.std.proofs.Common.{◌≡◌, ◌⊎◌, ℕ, ◌<◌, Bool, true, false, not, ◌&&◌, List, [], ◌∷◌, ◌++◌, length, refl, sym, ◌∙◌, ap, subst, inl, inr, Option, Some, None, arith, cond, length-append}
+use Rattle.std.proofs.Common.{◌≡◌, ◌⊎◌, ℕ, ◌<◌, Bool, true, false, not, ◌&&◌, List, [], ◌∷◌, ◌++◌, length, refl, sym, ◌∙◌, ap, subst, inl, inr, Option, Some, None, arith, cond, length-append, drop}
 use Rattle.std.specs.Prelude.{is_some, option_and_then, ◌==◌}
 use Rattle.std.specs.Option.{option_map, option_map_or}
 use Rattle.std.proofs.lemmas.Bool.{false≢true, and_parts, both_ways, false_from_ne_true, eqb-true, eq-eqb, cases_lt}
@@ -32,6 +32,7 @@ use Rattle.laws_sessions.proofs.Restless.{IsUnjoined, is_restless, restless_less
 use Rattle.laws_sessions.proofs.RoamingFolders.{roaming_still}
 use Rattle.laws_sessions.proofs.WaitsFor.{names_said}
 use Rattle.laws_sessions.proofs.Changing.{folder_anchored, off_itself, said_one, some_none, some_is}
+use Rattle.laws_sessions.proofs.Since.{clean_since, pending_all, pending_since, renamed_since}
 
 abbrev pub new_node : CallLog → ℕ
 new_node log = length (current log).nodes
@@ -81,6 +82,7 @@ module _ (told : HistoryFacts) (dirty : List Route) (marks : Marks) (log : CallL
     tracked = known.tracked;
     joint = known.joint;
     doubts = known.doubts;
+    written = known.written;
     stand = known.stand;
   }
 
@@ -98,8 +100,9 @@ pub record MakesThing (told after : HistoryFacts) (marks : Marks) (log : CallLog
   pub shown : after.tree (name ∷ up) ≡ record { value = Some (value made); is_mount = false }
   pub earlier : (after.earlier (name ∷ up)).value ≡ None
   pub no_part : after.part ≡ None
-  pub doubts : (p : Route) → told.doubt p ≡ true → after.doubt p ≡ true
-  pub doubted : after.doubt (name ∷ up) ≡ true
+  pub doubts : (n : ℕ) (p : Route) → told.doubt n p ≡ true → after.doubt n p ≡ true
+  pub doubted : (n : ℕ) → after.doubt n (name ∷ up) ≡ true
+  pub spared : (n : ℕ) (p : Route) → after.written n p ≡ false → (told.written n p ≡ false) × (same_path p (name ∷ up) ≡ false)
   pub folders : (p : Route) → after.folders p ≡ true → (told.folders p ≡ true) ⊎ (p ≡ up)
   pub modes : (p : Route) → told.modes p ≡ true → after.modes p ≡ true
   pub calm : (p : Route) → after.calm p ≡ true → (told.calm p ≡ true) ⊎ IsCalmFolder marks log p
@@ -259,29 +262,36 @@ module _ (told after : HistoryFacts) (dirty dirty_after : List Route) (marks : M
   joint : (g h : ℕ) (q : Route) → is_joint g h now.changes ≡ true → find (current now) q ≡ Some g → IsBeside now q h
   joint = joint_still log makes known.guarded.tree known.files refl (starts_same log makes) as_before was_at (λ q g h joined at. stays q g at) known.joint
 
-  doubts : (p : Route) → name_waits now p ≡ true → after.doubt p ≡ true
-  doubts [] waits = absurd (false≢true waits)
-  doubts (k ∷ q) waits = by (find (current now) q) refl
+  doubts : (n : ℕ) (p : Route) → renamed_since n now p ≡ true → after.doubt n p ≡ true
+  doubts n [] waits = absurd (false≢true waits)
+  doubts n (k ∷ q) waits = by (find (current now) q) refl
     where
-      in_now : (o : Option ℕ) → find (current now) q ≡ o → option_map_or (λ g. is_pending g k now.changes) o false ≡ true
-      in_now o is = sym (ap (λ x. option_map_or (λ g. is_pending g k now.changes) x false) is) ∙ waits
+      in_now : (o : Option ℕ) → find (current now) q ≡ o → option_map_or (λ g. is_pending g k (drop n now.changes)) o false ≡ true
+      in_now o is = sym (ap (λ x. option_map_or (λ g. is_pending g k (drop n now.changes)) x false) is) ∙ waits
 
-      old_by : (g : ℕ) → find (current now) q ≡ Some g → is_pending g k log.changes ≡ true → (b : Bool) → same_path q path ≡ b → after.doubt (k ∷ q) ≡ true
-      old_by g is old false off = m.doubts (k ∷ q) (known.doubts (k ∷ q) (ap (λ x. option_map_or (λ h. is_pending h k log.changes) x false) (sym (off_path q off) ∙ is) ∙ old))
+      old_by : (g : ℕ) → find (current now) q ≡ Some g → is_pending g k (drop n log.changes) ≡ true → (b : Bool) → same_path q path ≡ b → after.doubt n (k ∷ q) ≡ true
+      old_by g is old false off = m.doubts n (k ∷ q) (known.doubts n (k ∷ q) (ap (λ x. option_map_or (λ h. is_pending h k (drop n log.changes)) x false) (sym (off_path q off) ∙ is) ∙ old))
       old_by g is old true same =
           let g_is : g ≡ new = some_is new g (sym path_leads ∙ (ap (find (current now)) (sym (same_path-true q path same)) ∙ is)) in
-          absurd (none_waits_new k (subst (λ i. is_pending i k log.changes ≡ true) g_is old))
+          absurd (none_waits_new k (pending_all n new k log.changes (subst (λ i. is_pending i k (drop n log.changes) ≡ true) g_is old)))
 
-      new_by : (g : ℕ) → find (current now) q ≡ Some g → is_some (says makes 0 g k) ≡ true → after.doubt (k ∷ q) ≡ true
+      new_by : (g : ℕ) → find (current now) q ≡ Some g → is_some (says makes 0 g k) ≡ true → after.doubt n (k ∷ q) ≡ true
       new_by g is said =
           let s = says_it g k said in
           let q_is : up ≡ q = find-once (current now) naming.tree up q f stands (is ∙ ap (λ h. Some h) (sym s.0)) in
           let same : path ≡ k ∷ q = ap (λ x. (let l : Route = x ∷ up in l)) s.1 ∙ ap (λ (r : Route). k ∷ r) q_is in
-          subst (λ p. after.doubt p ≡ true) same m.doubted
+          subst (λ p. after.doubt n p ≡ true) same (m.doubted n)
 
-      by : (o : Option ℕ) → find (current now) q ≡ o → after.doubt (k ∷ q) ≡ true
+      by : (o : Option ℕ) → find (current now) q ≡ o → after.doubt n (k ∷ q) ≡ true
       by None is = absurd (false≢true (in_now None is))
-      by (Some g) is = elim (pending_less g k log.changes makes (in_now (Some g) is)) [ inl old ↦ old_by g is old (same_path q path) refl | inr said ↦ new_by g is said ]
+      by (Some g) is = elim (pending_since n g k log.changes makes (in_now (Some g) is)) [ inl old ↦ old_by g is old (same_path q path) refl | inr said ↦ new_by g is said ]
+
+  -- the call alters nothing
+  written : (n : ℕ) (p : Route) (i : ℕ) → (after.part ≡ Some p → ⊥) → after.written n p ≡ false → find (current now) p ≡ Some i → is_clean i (drop n now.changes) ≡ true
+  written n p i other off at =
+      let spared = m.spared n p off in
+      clean_since n i log.changes makes refl
+      (known.written n p i (λ is. let e : (let o : Option Route = None in o) ≡ Some p = sym m.none ∙ is in cc) spared.0 (sym (off_path p spared.1) ∙ at))
 
   -- this path, or another
   abbrev Where : Route → Type 0
@@ -394,5 +404,6 @@ module _ (told after : HistoryFacts) (dirty dirty_after : List Route) (marks : M
     tracked = tracked;
     joint = joint;
     doubts = doubts;
+    written = written;
     stand = stand;
   }

@@ -1,7 +1,7 @@
 -- Each step of the setting of a mode keeps what is known.
 use Rattle.std.proofs.Common.{◌≡◌, ◌⊎◌, ℕ, Bool, true, false, not, ◌&&◌, ◌||◌, List, [], ◌∷◌, refl, sym, ◌∙◌, ap, subst, inl, inr, Option, Some, None, Ok}
 use Rattle.std.specs.Option.{option_map}
-use Rattle.std.proofs.lemmas.Bool.{both_ways, false≢true, or_left, or_right}
+use Rattle.std.proofs.lemmas.Bool.{both_ways, false≢true, or_left, or_right, or_parts}
 use Rattle.mc_text.specs.Routes.{Route, same_path}
 use Rattle.tree_trait.specs.declared.calls.TreeError.{TreeError}
 use Rattle.tree_trait.specs.FileSystem.{Spot, find, lookup, node, value}
@@ -102,7 +102,8 @@ module _ (told : HistoryFacts) (dirty dirty_after : List Route) (marks : Marks) 
     shown = put_at told.tree s.path (option_map (moded_value s.mode) (told.tree s.path).value)
         ∙ ap (λ v. (let t : Spot = record (told.tree s.path) { value = option_map (moded_value s.mode) v } in t)) told_value;
     earlier = ap (λ (x : Spot). x.value) (put_at told.earlier s.path (told.tree s.path).value);
-    doubts = λ p waits. or_left _ _ waits;
+    doubts = λ n p waits. or_left _ _ waits;
+    spared = λ n p off. or_parts (told.written n p) (same_path p s.path) off;
     folders = λ p there. elim (either (same_path p (folder_of s.path) || same_path p (folder_of s.path)) (told.folders p) there) [
       | inl here ↦ inr (subst (λ q. IsSureFolder log q) (sym (same_path-true p (folder_of s.path) (elim (either (same_path p (folder_of s.path)) (same_path p (folder_of s.path)) here) [ inl same ↦ same | inr same ↦ same ]))) firm)
       | inr before ↦ inl before

@@ -91,7 +91,7 @@ module _ (told : HistoryFacts) (dirty dirty_after : List Route) (marks : Marks) 
       (renamed_at work k.source.name (folder_of w.pair.source) k.target.name (folder_of w.pair.target) k.none (subst (λ p. Renames p) spelled renames))
 
   -- nothing stands where a folder is moved
-  free_target : (pair : Pair) (replies : Replies) → MayMove (current log) pair replies → is_folder (node (current log) (found_node (current log) pair.source)) ≡ true → find (current log) pair.target ≡ None
+  pub free_target : (pair : Pair) (replies : Replies) → MayMove (current log) pair replies → is_folder (node (current log) (found_node (current log) pair.source)) ≡ true → find (current log) pair.target ≡ None
   free_target pair replies may folder = elim may.free [
     | inl missing ↦ stat_missing (current log) pair.target missing
     | inr decided ↦ (let d = decided.1 in absurd (both_ways _ (ap folder_kind (sym d.of_source.is.kind) ∙ d.single) folder))

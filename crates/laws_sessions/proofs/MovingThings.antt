@@ -1,7 +1,7 @@
 -- A thing is moved, a folder with all that lies in it too: what is known then.
 use Rattle.std.proofs.Common.{◌≡◌, ◌⊎◌, ℕ, Bool, true, false, not, List, [], ◌∷◌, ◌++◌, length, refl, sym, ◌∙◌, ap, subst, inl, inr, Option, Some, None, arith}
 use Rattle.std.specs.Prelude.{if◌then◌else◌, is_some}
-use Rattle.std.proofs.lemmas.Bool.{false≢true, both_ways, or_from, or_left, or_right}
+use Rattle.std.proofs.lemmas.Bool.{false≢true, both_ways, or_from, or_left, or_parts, or_right}
 use Rattle.mc_text.specs.Routes.{Route, is_prefix}
 use Rattle.tree_trait.specs.declared.file_system.FileSystem.{FileSystem}
 use Rattle.tree_trait.specs.FileSystem.{Spot, View, find, node, value, visible_tree}
@@ -22,6 +22,7 @@ pub use Rattle.laws_sessions.proofs.MovingWaits.{source_stays, target_stays, thi
 use Rattle.laws_sessions.proofs.MovingWaits.{calm_then, doubts_then, files_now, folder_then, joint_then, stand_then, tracked_then}
 use Rattle.laws_sessions.proofs.PathsBelow.{below_way}
 use Rattle.laws_sessions.proofs.Quiet.{unclean_before}
+use Rattle.laws_sessions.proofs.Since.{clean_since}
 
 -- a move shows of two trees that show the same the same
 moved_same : (pair : Pair) (v w : View) → ((p : Route) → v p ≡ w p) → (p : Route) → moved_by pair v p ≡ moved_by pair w p
@@ -210,5 +211,9 @@ module _ (told : HistoryFacts) (dirty : List Route) (marks : Marks) (log : CallL
     tracked = tracked_then told dirty marks log kept old source_folder new target_folder f g i r h dirty_after listed listed_beside more;
     joint = joint_then told dirty marks log kept old source_folder new target_folder f g i r h;
     doubts = doubts_then told dirty marks log kept old source_folder new target_folder f g i r h;
+    written = λ n p j other off at.
+        let both = or_parts (told.written n p) (is_of_move pair p) off in
+        let away = or_parts (is_prefix source p) (is_prefix target p) both.1 in
+        clean_since n j log.changes moves refl (known.written n p j (no_part p) both.0 (sym (off_both p away.0 away.1) ∙ at));
     stand = stand_then told dirty marks log kept old source_folder new target_folder f g i r h;
   }

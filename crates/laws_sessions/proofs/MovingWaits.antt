@@ -1,5 +1,5 @@
 -- A thing is moved, a folder with all that lies in it too: which names wait then, where the folders stand, and that nothing waits where it went, nor below.
-use Rattle.std.proofs.Common.{◌≡◌, ◌⊎◌, ℕ, Bool, true, false, not, ◌&&◌, ◌||◌, List, [], ◌∷◌, ◌++◌, length, refl, sym, ◌∙◌, ap, subst, inl, inr, Option, Some, None, arith}
+use Rattle.std.proofs.Common.{◌≡◌, ◌⊎◌, ℕ, Bool, true, false, not, ◌&&◌, ◌||◌, List, [], ◌∷◌, ◌++◌, length, refl, sym, ◌∙◌, ap, subst, inl, inr, Option, Some, None, arith, drop}
 use Rattle.std.specs.Prelude.{is_some, ◌==◌}
 use Rattle.std.specs.Option.{option_map_or}
 use Rattle.std.proofs.lemmas.Bool.{false≢true, and_parts, both_ways, eqb-true, false_from_ne_true, not-true, or_cases, or_from, or_left, or_parts, or_right}
@@ -30,6 +30,7 @@ use Rattle.laws_sessions.proofs.Pending.{pending_less}
 use Rattle.laws_sessions.proofs.Quiet.{was_bare}
 use Rattle.laws_sessions.proofs.Resting.{IsBeside, IsOfFiles, IsSureFolder, folder_at_of, joint_folder, name_sure, restless_folder, stands_at, unborn_more}
 use Rattle.laws_sessions.proofs.Restless.{is_restless, joint_less, joint_swap, named_both, names_in, others, restless_less}
+use Rattle.laws_sessions.proofs.Since.{pending_all, pending_since, renamed_since}
 
 -- what stands in a folder that lies off a path, and isn't its folder, lies off it
 off_within : (top : List ℕ) (folder : Route) (name : List ℕ) (p : Route) → is_prefix (top ∷ folder) p ≡ false → same_path p folder ≡ false → is_prefix (top ∷ folder) (name ∷ p) ≡ false
@@ -239,25 +240,29 @@ module _ (told : HistoryFacts) (dirty : List Route) (marks : Marks) (log : CallL
     | inr e ↦ inr (ap (λ (p : Route). name ∷ p) (find-once (current now) tree_after q target_folder k at (to_now ∙ ap (λ n. Some n) (sym e.0))) ∙ e.1)
   ]
 
-  is_doubted : (p : Route) → (p ≡ source) ⊎ (p ≡ target) → after.doubt p ≡ true
-  is_doubted p (inl e) = or_right (told.doubt p) _ (or_left _ (same_path p target) (subst (λ q. same_path q source ≡ true) (sym e) (same_path-self source)))
-  is_doubted p (inr e) = or_right (told.doubt p) _ (or_right (same_path p source) _ (subst (λ q. same_path q target ≡ true) (sym e) (same_path-self target)))
+  is_doubted : (n : ℕ) (p : Route) → (p ≡ source) ⊎ (p ≡ target) → after.doubt n p ≡ true
+  is_doubted n p (inl e) = or_right (told.doubt n p) _ (or_left _ (same_path p target) (subst (λ q. same_path q source ≡ true) (sym e) (same_path-self source)))
+  is_doubted n p (inr e) = or_right (told.doubt n p) _ (or_right (same_path p source) _ (subst (λ q. same_path q target ≡ true) (sym e) (same_path-self target)))
 
-  pub doubts_then : (p : Route) → name_waits now p ≡ true → after.doubt p ≡ true
-  doubts_then [] waits = absurd (false≢true waits)
-  doubts_then (name ∷ q) waits = by (find (current now) q) refl
+  pub doubts_then : (count : ℕ) (p : Route) → renamed_since count now p ≡ true → after.doubt count p ≡ true
+  doubts_then count [] waits = absurd (false≢true waits)
+  doubts_then count (name ∷ q) waits = by (find (current now) q) refl
     where
-      pending : (k : ℕ) → find (current now) q ≡ Some k → is_pending k name log.changes ≡ true → after.doubt (name ∷ q) ≡ true
+      in_now : (o : Option ℕ) → find (current now) q ≡ o → option_map_or (λ n. is_pending n name (drop count now.changes)) o false ≡ true
+      in_now o at = sym (ap (λ o. option_map_or (λ n. is_pending n name (drop count now.changes)) o false) at) ∙ waits
+
+      pending : (k : ℕ) → find (current now) q ≡ Some k → is_pending k name (drop count log.changes) ≡ true → after.doubt count (name ∷ q) ≡ true
       pending k at before = elim (was_at q k at) [
-        | inl there ↦ or_left (told.doubt (name ∷ q)) _ (known.doubts (name ∷ q) (name_at q name k there.2 ∙ before))
-        | inr moved ↦ absurd (both_ways _ (h.rests.names name moved.0) (name_at (moved.0 ++ source) name k moved.2 ∙ before))
+        | inl there ↦ or_left (told.doubt count (name ∷ q)) _
+            (known.doubts count (name ∷ q) (ap (λ o. option_map_or (λ n. is_pending n name (drop count log.changes)) o false) there.2 ∙ before))
+        | inr moved ↦ absurd (both_ways _ (h.rests.names name moved.0) (name_at (moved.0 ++ source) name k moved.2 ∙ pending_all count k name log.changes before))
       ]
 
-      by : (o : Option ℕ) → find (current now) q ≡ o → after.doubt (name ∷ q) ≡ true
-      by None at = absurd (false≢true (sym (ap (λ o. option_map_or (λ n. is_pending n name now.changes) o false) at) ∙ waits))
-      by (Some k) at = elim (pending_less k name log.changes moves (sym (name_now q name k at) ∙ waits)) [
+      by : (o : Option ℕ) → find (current now) q ≡ o → after.doubt count (name ∷ q) ≡ true
+      by None at = absurd (false≢true (in_now None at))
+      by (Some k) at = elim (pending_since count k name log.changes moves (in_now (Some k) at)) [
         | inl before ↦ pending k at before
-        | inr s ↦ is_doubted (name ∷ q) (path_of_two k name q at s)
+        | inr s ↦ is_doubted count (name ∷ q) (path_of_two k name q at s)
       ]
 
   -- Nothing waits on the way to what isn't of the move, if nothing did.

@@ -35,6 +35,7 @@ module _ (told : HistoryFacts) (named : List Route) where
           tracked = k.tracked;
           joint = k.joint;
           doubts = k.doubts;
+          written = k.written;
           stand = k.stand;
         };
         aside = kept.aside;

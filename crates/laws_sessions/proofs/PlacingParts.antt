@@ -62,6 +62,7 @@ firm_known told dirty marks log i clean no_mode known = record {
   tracked = known.tracked;
   joint = known.joint;
   doubts = known.doubts;
+  written = known.written;
   stand = known.stand;
 }
 
@@ -92,12 +93,14 @@ pub record PlacesPart (told after : HistoryFacts) (marks : Marks) (log : CallLog
   pub placed : after.tree (target ∷ up) ≡ record { value = Some (value (node (current log) i)); is_mount = false }
   pub earlier : (after.earlier (target ∷ up)).value ≡ held (current log) (find (current log) (target ∷ up))
   pub none : after.part ≡ None
-  pub doubts : (p : Route) → told.doubt p ≡ true → after.doubt p ≡ true
+  pub doubts : (n : ℕ) (p : Route) → told.doubt n p ≡ true → after.doubt n p ≡ true
+  pub spared : (n : ℕ) (p : Route) → after.written n p ≡ false → told.written n p ≡ false
+  pub unspared : (n : ℕ) → after.written n (target ∷ up) ≡ true
   pub folders : (p : Route) → after.folders p ≡ true → told.folders p ≡ true
   pub modes : (p : Route) → told.modes p ≡ true → after.modes p ≡ true
   pub calm : (p : Route) → after.calm p ≡ true → told.calm p ≡ true
   pub no_mode : marks.modes i ≡ None
-  pub doubted : (after.doubt (target ∷ up) ≡ true) × (after.doubt (part ∷ up) ≡ true)
+  pub doubted : (n : ℕ) → (after.doubt n (target ∷ up) ≡ true) × (after.doubt n (part ∷ up) ≡ true)
 
 module _ (told after : HistoryFacts) (dirty dirty_after : List Route) (marks : Marks) (log : CallLog) (known : IsKnown told dirty marks log) (in_transit : RoamInTransit marks log) (part target : List ℕ) (up : Route) (f i : ℕ) (r : Option ℕ)
     (h : PlacesPart told after marks log part target up f i) where
@@ -223,14 +226,19 @@ module _ (told after : HistoryFacts) (dirty dirty_after : List Route) (marks : M
     listed_beside = listed;
     more = more;
     doubts = h.doubts;
+    spared = h.spared;
+    unwritten = λ n p j at other off there. elim at [
+      | inl e ↦ both_ways _ off (subst (λ q. after.written n q ≡ true) (sym e) (h.unspared n))
+      | inr e ↦ some_none j (sym there ∙ (ap (find (current now)) e ∙ part_at))
+    ];
     folders = λ p there. inl (h.folders p there);
     modes = h.modes;
     calm = λ p there. inl (h.calm p there);
     apart = λ p g k still there. unjoined_within g k moves ap_same;
     no_mode = no_mode;
-    touched = λ p at. elim at [
-      | inl e ↦ subst (λ q. after.doubt q ≡ true) (sym e) h.doubted.0
-      | inr e ↦ subst (λ q. after.doubt q ≡ true) (sym e) h.doubted.1
+    touched = λ n p at. elim at [
+      | inl e ↦ subst (λ q. after.doubt n q ≡ true) (sym e) (h.doubted n).0
+      | inr e ↦ subst (λ q. after.doubt n q ≡ true) (sym e) (h.doubted n).1
     ];
     named = h.named;
     left = λ p at is there. elim at [

@@ -3,7 +3,7 @@ use Rattle.laws_sessions.proofs.AmongParts.{if_among_in, if_among_more}
 use Rattle.std.proofs.Common.{◌≡◌, ◌⊎◌, ℕ, ◌<◌, zero, suc, Bool, true, false, List, [], ◌∷◌, ◌++◌, take, refl, sym, ◌∙◌, ap, subst, inl, inr, Option, Some, None, Ok, arith}
 use Rattle.std.specs.Prelude.{◌==◌, unwrap_or, if◌then◌else◌}
 use Rattle.std.specs.Option.{option_map, option_map_or}
-use Rattle.std.proofs.lemmas.Bool.{false_from_ne_true, eqb-true, eq-eqb, or_left, or_right}
+use Rattle.std.proofs.lemmas.Bool.{false_from_ne_true, eqb-true, eq-eqb, or_left, or_right, or_parts}
 use Rattle.std.proofs.Math.Seq.{take-length}
 use Rattle.mc_text.specs.Routes.{Route, same_path}
 use Rattle.tree_trait.specs.declared.file_system.Node.{Node}
@@ -41,7 +41,7 @@ use Rattle.laws_sessions.proofs.Knowing.{HistoryFacts, IsKnown, IsKept, held, se
 use Rattle.laws_sessions.proofs.JobKnows.{HasPart, IsAsFound, IsBare, IsFilled, none_of_part, part_settled}
 use Rattle.laws_sessions.proofs.PartNodes.{moded_node, part_on, part_there}
 use Rattle.laws_sessions.proofs.PlacingParts.{PlacesPart, firm_known, firm_transit, marks_firm, placed_known}
-use Rattle.laws_sessions.proofs.Stepped.{StepRan, comes_none, comes_one, comes_then, doubt_by, no_other}
+use Rattle.laws_sessions.proofs.Stepped.{comes_none, comes_one, comes_then, doubt_by, no_other, StepRan, written_by}
 
 -- the part that stands, in any tree: what its node holds, once it held these bytes with any mode
 abbrev Kept : HistoryFacts → Route → Route → ℕ → FileSystem → FileSystem → ℕ → Marks → Type 0
@@ -192,6 +192,7 @@ said_placed told source to target = record {
   left = told.left;
   part = None;
   doubt = doubt_by (Placed target) told.part told.doubt;
+  written = written_by (Placed target) told.written;
   folders = told.folders;
   modes = told.modes;
   calm = told.calm;
@@ -320,12 +321,14 @@ module _ (told : HistoryFacts) (dirty : List Route) (source to target : Route) (
     earlier = subst (λ q. (after.earlier q).value ≡ held (current mid) (find (current mid) q)) target_is
         (ap (λ (s : Spot). s.value) (put_at told.earlier target (told.tree target).value) ∙ ap (λ (s : Spot). s.value) target_seen);
     none = refl;
-    doubts = λ p h. or_left _ _ (or_left _ _ h);
+    doubts = λ n p h. or_left _ _ (or_left _ _ h);
+    spared = λ n p off. (or_parts (told.written n p) (same_path p target) off).0;
+    unspared = λ n. or_right _ _ (subst (λ q. same_path q target ≡ true) target_is (same_path-self target));
     folders = λ p there. there;
     modes = λ p there. there;
     calm = λ p there. there;
     no_mode = kept.modes i whole.clean;
-    doubted = (
+    doubted = λ n. (
       or_left _ _ (or_right _ _ (subst (λ q. same_path q target ≡ true) target_is (same_path-self target))),
       or_right _ _ (ap (λ o. option_map_or (same_path (whole.name ∷ up)) o false) (whole.part_is ∙ ap (λ q. Some q) whole.beside) ∙ same_path-self (whole.name ∷ up)),
     );

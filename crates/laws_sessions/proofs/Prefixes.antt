@@ -15,8 +15,8 @@ use Rattle.session_entries.specs.declared.history.Event.TheVariants as event
 use Rattle.session_entries.specs.declared.history.Entry.{Entry}
 use Rattle.session_entries.specs.LiveJobs.{LiveJob, live_item, live_jobs}
 use Rattle.laws_sessions.specs.Replayed.{earlier_event, earlier_tree, log_prefix, replayed_event, replayed_tree}
-use Rattle.session_entries.specs.Named.{left_parts, left_after, live_parts, IsUnnamedSince, named_after, named_parts, names, names_path}
-use Rattle.laws_sessions.proofs.Knowing.{HistoryFacts, anywhere}
+use Rattle.session_entries.specs.Named.{IsUnnamedSince, left_after, left_parts, live_parts, named_after, named_parts, names, names_path}
+use Rattle.laws_sessions.proofs.Knowing.{any_since, anywhere, HistoryFacts}
 use Rattle.laws_sessions.proofs.Resting.{folder_at}
 use Rattle.laws_sessions.proofs.Stepped.{calm_by, folders_by, more}
 
@@ -61,7 +61,8 @@ told_of opening end g part = record {
   named = named_parts g;
   left = left_parts g;
   part = part;
-  doubt = anywhere;
+  doubt = any_since;
+  written = any_since;
   folders = folders_told opening g;
   modes = anywhere;
   calm = calm_told g;
@@ -75,7 +76,8 @@ told_with opening end older calls what part = record {
   named = named_after what (live_parts older) (left_parts older) (named_parts older);
   left = left_after what (left_parts older);
   part = part;
-  doubt = anywhere;
+  doubt = any_since;
+  written = any_since;
   folders = folders_event what (live_jobs older) (folders_told opening older);
   modes = anywhere;
   calm = calm_event what (live_jobs older) (calm_told older);
@@ -107,7 +109,7 @@ earlier_more opening now cs (e ∷ older) (few, w) =
 
 abbrev pub said_by : (Route → Bool) → (Route → Bool) → View → View → List Route → List Route → Option Route → HistoryFacts
 said_by folders calm tree earlier named left part =
-    record { tree = tree; earlier = earlier; named = named; left = left; part = part; doubt = anywhere; folders = folders; modes = anywhere; calm = calm }
+    record { tree = tree; earlier = earlier; named = named; left = left; part = part; doubt = any_since; written = any_since; folders = folders; modes = anywhere; calm = calm }
 
 pub told_more : (opening now : CallLog) (cs : List Change) (g : List Entry) (part : Option Route) → AreWithin opening g now → told_of opening (more now cs) g part ≡ told_of opening now g part
 told_more opening now cs g part w =

@@ -1,5 +1,5 @@
 -- Calls that change no name keep what is known: a sync, a write to the part that stands, another mode of it.
-use Rattle.std.proofs.Common.{◌≡◌, ◌⊎◌, ℕ, ◌<◌, ◌≤◌, Bool, true, false, List, [], ◌∷◌, length, refl, sym, ◌∙◌, ap, subst, inl, inr, Option, Some, None, arith}
+use Rattle.std.proofs.Common.{◌≡◌, ◌⊎◌, ℕ, ◌<◌, ◌≤◌, Bool, true, false, List, [], ◌∷◌, length, refl, sym, ◌∙◌, ap, subst, inl, inr, Option, Some, None, arith, drop}
 use Rattle.std.specs.Prelude.{is_some, ◌==◌}
 use Rattle.std.specs.List.{list_any}
 use Rattle.std.specs.Option.{option_map, option_map_or}
@@ -23,6 +23,7 @@ use Rattle.laws_sessions.proofs.Knowing.{HistoryFacts, HasMode, IsCalmFolder, Is
 use Rattle.laws_sessions.proofs.Resting.{IsBeside, IsOfFiles, IsSureFolder, folder_at, joint_still, stands_at, sure_still, unborn_more, unjoined_still}
 use Rattle.laws_sessions.proofs.Restless.{IsUnjoined, is_restless, restless_less}
 use Rattle.laws_sessions.proofs.RoamingFolders.{renames_none, roaming_still}
+use Rattle.laws_sessions.proofs.Since.{clean_since, pending_since, renamed_since}
 use Rattle.laws_sessions.proofs.WaitsFor.{names_said}
 
 mounts_after : (s : FileSystem) (c : Change) → (after_change s c).mounts ≡ s.mounts
@@ -124,6 +125,19 @@ module _ (said : HistoryFacts) (dirty : List Route) (marks : Marks) (log : CallL
       by : (o : Option ℕ) → find (current log) up ≡ o → name_waits log (name ∷ up) ≡ true
       by None is = absurd (false≢true (in_now None is))
       by (Some f) is = ap (λ x. option_map_or (λ g. is_pending g name log.changes) x false) is ∙ waited f name (in_now (Some f) is)
+
+  pub since_before : (count : ℕ) (p : Route) → renamed_since count now p ≡ true → renamed_since count log p ≡ true
+  since_before count [] waits = absurd (false≢true waits)
+  since_before count (name ∷ up) waits = by (find (current log) up) refl
+    where
+      in_now : (o : Option ℕ) → find (current log) up ≡ o → option_map_or (λ f. is_pending f name (drop count now.changes)) o false ≡ true
+      in_now o is = sym (ap (λ x. option_map_or (λ f. is_pending f name (drop count now.changes)) x false) (same_quiet log c n.names up ∙ is)) ∙ waits
+
+      by : (o : Option ℕ) → find (current log) up ≡ o → renamed_since count log (name ∷ up) ≡ true
+      by None is = absurd (false≢true (in_now None is))
+      by (Some f) is =
+          ap (λ x. option_map_or (λ g. is_pending g name (drop count log.changes)) x false) is
+          ∙ elim (pending_since count f name log.changes c (in_now (Some f) is)) [ inl old ↦ old | inr new ↦ absurd (said_none f name new) ]
 
   -- what isn't in doubt stays so
   calm_sure : (p : Route) (j : ℕ) → find (current log) p ≡ Some j → is_folder (node (current log) j) ≡ true → way_waits log p ≡ false → way_waits now p ≡ false
@@ -231,6 +245,8 @@ module _ (said : HistoryFacts) (dirty : List Route) (marks : Marks) (log : CallL
     part = λ p is. let k = known.part p is in (k.0, k.1, ap is_some (same_quiet log c quiet_of.names p) ∙ k.2);
     tracked = calm_tracked said dirty marks log c known nameless;
     joint = calm_joint said dirty marks log c known nameless;
-    doubts = λ p waits. known.doubts p (waits_before said dirty marks log c known nameless p waits);
+    doubts = λ n p waits. known.doubts n p (since_before said dirty marks log c known nameless n p waits);
+    written = λ n p i other off at.
+        let before : find (current log) p ≡ Some i = sym (same_quiet log c quiet_of.names p) ∙ at in clean_since n i log.changes c (calm.still p i other before) (known.written n p i other off before);
     stand = λ p there. calm_firm said dirty marks log c known nameless p (known.stand p there);
   }

@@ -1,5 +1,5 @@
 -- Calls that change the names of files keep what is known, where the job knew its paths.
-use Rattle.std.proofs.Common.{◌≡◌, ◌⊎◌, ℕ, ◌<◌, ◌≤◌, Bool, true, false, List, [], ◌∷◌, length, refl, sym, ◌∙◌, ap, subst, inl, inr, Option, Some, None, arith}
+use Rattle.std.proofs.Common.{◌≡◌, ◌⊎◌, ℕ, ◌<◌, ◌≤◌, Bool, true, false, List, [], ◌∷◌, length, refl, sym, ◌∙◌, ap, subst, inl, inr, Option, Some, None, arith, drop}
 use Rattle.std.specs.Prelude.{is_some, option_and_then}
 use Rattle.std.specs.Option.{option_map_or}
 use Rattle.std.proofs.lemmas.Bool.{false≢true, both_ways, false_from_ne_true, cases_lt}
@@ -23,6 +23,7 @@ use Rattle.laws_sessions.proofs.Restless.{is_restless, named_both, names_in, res
 use Rattle.laws_sessions.proofs.InTransit.{renames}
 use Rattle.laws_sessions.proofs.RoamingFolders.{renaming_says, roaming_still}
 use Rattle.laws_sessions.proofs.WaitsFor.{names_said}
+use Rattle.laws_sessions.proofs.Since.{clean_since, pending_all, pending_since, renamed_since}
 
 -- Where a call changes names of files: at these two paths alone, each in its folder, which may be the same one; and both folders lie on one mount.
 pub record ChangesFiles (log : CallLog) (c : Change) (up beside first second : Route) (f g : ℕ) : Type 0 where
@@ -69,7 +70,8 @@ pub record IsFileNaming (said after : HistoryFacts) (dirty dirty_after : List Ro
   pub listed : Among dirty_after up
   pub listed_beside : Among dirty_after beside
   pub more : (q : Route) → Among dirty q → Among dirty_after q
-  pub doubts : (p : Route) → said.doubt p ≡ true → after.doubt p ≡ true
+  pub doubts : (n : ℕ) (p : Route) → said.doubt n p ≡ true → after.doubt n p ≡ true
+  pub spared : (n : ℕ) (p : Route) → after.written n p ≡ false → said.written n p ≡ false
   -- where a folder is said to be on the disk it was said so before, or it is
   pub folders : (p : Route) → after.folders p ≡ true → (said.folders p ≡ true) ⊎ IsSureFolder log p
   pub modes : (p : Route) → said.modes p ≡ true → after.modes p ≡ true
@@ -79,7 +81,9 @@ pub record IsFileNaming (said after : HistoryFacts) (dirty dirty_after : List Ro
   pub apart : (p : Route) (k h : ℕ) → after.calm p ≡ true → find (current (with_change log c)) p ≡ Some k → joins k h c ≡ false
   pub no_mode : (p : Route) (i : ℕ) → (p ≡ first) ⊎ (p ≡ second) → (find (current log) p ≡ Some i) ⊎ (find (current (with_change log c)) p ≡ Some i) → marks.modes i ≡ None
   -- of these two a change may wait then
-  pub touched : (p : Route) → (p ≡ first) ⊎ (p ≡ second) → after.doubt p ≡ true
+  pub touched : (n : ℕ) (p : Route) → (p ≡ first) ⊎ (p ≡ second) → after.doubt n p ≡ true
+  -- what stands at one of them is the part, or may have been altered
+  pub unwritten : (n : ℕ) (p : Route) (i : ℕ) → (p ≡ first) ⊎ (p ≡ second) → (after.part ≡ Some p → ⊥) → after.written n p ≡ false → find (current (with_change log c)) p ≡ Some i → ⊥
   pub named : (p : Route) → marks.aside p ≡ true → Among after.named p
   -- a part that stands is the live job's then, or an ended one left it
   pub left : (p : Route) → (p ≡ first) ⊎ (p ≡ second) → marks.aside p ≡ true → is_some (find (current (with_change log c)) p) ≡ true → (after.part ≡ Some p) ⊎ Among after.left p
@@ -305,32 +309,32 @@ module _ (said after : HistoryFacts) (dirty dirty_after : List Route) (marks : M
   ]
 
   -- a path of which a change waits was one before, or it is one of the two
-  doubts : (p : Route) → name_waits now p ≡ true → after.doubt p ≡ true
-  doubts [] waits = absurd (false≢true waits)
-  doubts (name ∷ q) waits = by (find (current now) q) refl
+  doubts : (count : ℕ) (p : Route) → renamed_since count now p ≡ true → after.doubt count p ≡ true
+  doubts count [] waits = absurd (false≢true waits)
+  doubts count (name ∷ q) waits = by (find (current now) q) refl
     where
-      in_now : (o : Option ℕ) → find (current now) q ≡ o → option_map_or (λ g. is_pending g name now.changes) o false ≡ true
-      in_now o is = sym (ap (λ x. option_map_or (λ g. is_pending g name now.changes) x false) is) ∙ waits
+      in_now : (o : Option ℕ) → find (current now) q ≡ o → option_map_or (λ g. is_pending g name (drop count now.changes)) o false ≡ true
+      in_now o is = sym (ap (λ x. option_map_or (λ g. is_pending g name (drop count now.changes)) x false) is) ∙ waits
 
-      waited : (g : ℕ) → find (current now) q ≡ Some g → is_pending g name log.changes ≡ true → after.doubt (name ∷ q) ≡ true
+      waited : (g : ℕ) → find (current now) q ≡ Some g → is_pending g name (drop count log.changes) ≡ true → after.doubt count (name ∷ q) ≡ true
       waited g is old =
-          let at : find (current log) q ≡ Some g = folder_was q g (waits_in_folder g name old) is in
-          n.doubts (name ∷ q) (known.doubts (name ∷ q) (ap (λ x. option_map_or (λ k. is_pending k name log.changes) x false) at ∙ old))
+          let at : find (current log) q ≡ Some g = folder_was q g (waits_in_folder g name (pending_all count g name log.changes old)) is in
+          n.doubts count (name ∷ q) (known.doubts count (name ∷ q) (ap (λ x. option_map_or (λ k. is_pending k name (drop count log.changes)) x false) at ∙ old))
 
-      new : (g : ℕ) → find (current now) q ≡ Some g → is_some (says c 0 g name) ≡ true → after.doubt (name ∷ q) ≡ true
+      new : (g : ℕ) → find (current now) q ≡ Some g → is_some (says c 0 g name) ≡ true → after.doubt count (name ∷ q) ≡ true
       new g is s =
           elim (names.at g name s) [
             | inl one ↦
                 let same : up ≡ q = find-once (current now) naming_of.tree up q f names.stands (is ∙ ap (λ k. Some k) one.0) in
-                n.touched (name ∷ q) (inl (subst (λ (r : Route). (name ∷ r) ≡ first) same one.1))
+                n.touched count (name ∷ q) (inl (subst (λ (r : Route). (name ∷ r) ≡ first) same one.1))
             | inr other ↦
                 let same : beside ≡ q = find-once (current now) naming_of.tree beside q e names.stands_beside (is ∙ ap (λ k. Some k) other.0) in
-                n.touched (name ∷ q) (inr (subst (λ (r : Route). (name ∷ r) ≡ second) same other.1))
+                n.touched count (name ∷ q) (inr (subst (λ (r : Route). (name ∷ r) ≡ second) same other.1))
           ]
 
-      by : (o : Option ℕ) → find (current now) q ≡ o → after.doubt (name ∷ q) ≡ true
+      by : (o : Option ℕ) → find (current now) q ≡ o → after.doubt count (name ∷ q) ≡ true
       by None is = absurd (false≢true (in_now None is))
-      by (Some g) is = elim (pending_less g name log.changes c (in_now (Some g) is)) [ inl old ↦ waited g is old | inr s ↦ new g is s ]
+      by (Some g) is = elim (pending_since count g name log.changes c (in_now (Some g) is)) [ inl old ↦ waited g is old | inr s ↦ new g is s ]
 
   left_then : (p : Route) → marks.aside p ≡ true → is_some (find (current now) p) ≡ true → (after.part ≡ Some p) ⊎ Among after.left p
   left_then p is there = elim (where_is p) [
@@ -359,5 +363,11 @@ module _ (said after : HistoryFacts) (dirty dirty_after : List Route) (marks : M
     tracked = tracked;
     joint = joint;
     doubts = doubts;
+    written = λ count p i other off at. elim (where_is p) [
+      | inl here ↦ absurd (n.unwritten count p i here other off at)
+      | inr away ↦
+          let o = n.off p away.0 away.1 in
+          clean_since count i log.changes c (naming_of.bytes i) (known.written count p i o.3 (n.spared count p off) (sym o.0 ∙ at))
+    ];
     stand = λ p there. elim (n.folders p there) [ inl before ↦ firm_still p (known.stand p before) | inr firm ↦ firm_still p firm ];
   }

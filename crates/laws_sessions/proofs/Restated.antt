@@ -35,6 +35,7 @@ module _ (told : HistoryFacts) (folders calm : Route → Bool) where
           tracked = k.tracked;
           joint = k.joint;
           doubts = k.doubts;
+          written = k.written;
           stand = firm;
         };
         aside = kept.aside;

@@ -10,7 +10,7 @@ use Rattle.tree_trait.specs.FileSystem.{Spot, Value, find, node, starts_mount, v
 use Rattle.tree_trait.specs.Refusals.{is_folder}
 use Rattle.tree_trait.specs.Shape.{IsTree}
 use Rattle.tree_trait.specs.Change.{Change, Sets, CallLog, current, with_change}
-use Rattle.tree_trait.specs.CrashImages.{Among, is_clean}
+use Rattle.tree_trait.specs.CrashImages.{Among, alters, is_clean}
 use Rattle.tree_trait.proofs.Finding.{find-once}
 use Rattle.tree_trait.proofs.Kept.{tree_set}
 use Rattle.tree_trait.proofs.Visible.{same_path-self, same_path-true}
@@ -28,11 +28,12 @@ use Rattle.laws_sessions.proofs.Changing.{folder_anchored}
 use Rattle.laws_sessions.proofs.JobKnows.{none_unlisted}
 use Rattle.laws_sessions.proofs.Knowing.{HasMode, IsCalmFolder, IsCalmIn, IsKept, IsKnown, HistoryFacts, firm_now, held}
 use Rattle.laws_sessions.proofs.PartNodes.{moded_node}
-use Rattle.laws_sessions.proofs.Quiet.{IsNameless, calm_apart, calm_files, calm_firm, calm_joint, calm_tracked, held_same, shows_same, starts_same, unclean_before, waits_before, was_folder}
+use Rattle.laws_sessions.proofs.Quiet.{IsNameless, calm_apart, calm_files, calm_firm, calm_joint, calm_tracked, held_same, shows_same, starts_same, unclean_before, waits_before, was_folder, since_before}
 use Rattle.laws_sessions.proofs.Resting.{IsSureFolder, settled_unless}
 use Rattle.laws_sessions.proofs.Restless.{is_restless}
 use Rattle.laws_sessions.proofs.RoamingFolders.{roaming_still}
 use Rattle.laws_sessions.proofs.WaitsFor.{waits_for}
+use Rattle.laws_sessions.proofs.Since.{clean_since}
 
 -- A mode is to be set where nothing of the path waits, nor another mode of what stands there, and what the history says once it is.
 pub record SetsMode (told after : HistoryFacts) (dirty dirty_after : List Route) (marks : Marks) (log : CallLog) (path : Route) (i mode : ℕ) : Type 0 where
@@ -50,7 +51,8 @@ pub record SetsMode (told after : HistoryFacts) (dirty dirty_after : List Route)
   pub off : (p : Route) → same_path p path ≡ false → (after.tree p ≡ told.tree p) × (after.earlier p ≡ told.earlier p)
   pub shown : after.tree path ≡ record (told.tree path) { value = Some (value (with_mode mode (node (current log) i))) }
   pub earlier : (after.earlier path).value ≡ (told.tree path).value
-  pub doubts : (p : Route) → told.doubt p ≡ true → after.doubt p ≡ true
+  pub doubts : (n : ℕ) (p : Route) → told.doubt n p ≡ true → after.doubt n p ≡ true
+  pub spared : (n : ℕ) (p : Route) → after.written n p ≡ false → (told.written n p ≡ false) × (same_path p path ≡ false)
   pub folders : (p : Route) → after.folders p ≡ true → (told.folders p ≡ true) ⊎ IsSureFolder log p
   pub modes : after.modes path ≡ true
   pub modes_more : (p : Route) → told.modes p ≡ true → after.modes p ≡ true
@@ -382,6 +384,12 @@ module _ (told after : HistoryFacts) (dirty dirty_after : List Route) (marks : M
             let here = same_path-true p path same in
             off (kept.was p out (ap (way_waits log) here ∙ s.sure) ∙ (ap (find (current log)) here ∙ s.at)))
 
+    -- it alters what stands at its path
+    unaltered_at : (p : Route) (j : ℕ) → same_path p path ≡ false → find (current log) p ≡ Some j → alters j sets ≡ false
+    unaltered_at p j away at = false_from_ne_true _ (λ same.
+        let here : p ≡ path = find-once (current log) kept.known.guarded.tree p path i (at ∙ ap (λ k. Some k) (sym (eqb-true i j same))) s.at in
+        both_ways _ away (subst (λ q. same_path q path ≡ true) (sym here) (same_path-self path)))
+
     pub set_known : IsKnown after dirty_after new now
     set_known = record {
       guarded = m.guarded;
@@ -402,6 +410,11 @@ module _ (told after : HistoryFacts) (dirty dirty_after : List Route) (marks : M
       part = λ p is. absurd (let e : (let o : Option Route = None in o) ≡ Some p = sym s.none ∙ is in let x : ⊥ = cc in x);
       tracked = λ f restless. elim (calm_tracked told dirty marks log sets kept.known nameless f restless) [ inl t ↦ inl (t.0, s.more t.0 t.1, t.2) | inr none ↦ inr none ];
       joint = calm_joint told dirty marks log sets kept.known nameless;
-      doubts = λ p waits. s.doubts p (kept.known.doubts p (waits_before told dirty marks log sets kept.known nameless p waits));
+      doubts = λ n p waits. s.doubts n p (kept.known.doubts n p (since_before told dirty marks log sets kept.known nameless n p waits));
+      written = λ n p j other off there.
+          let before : find (current log) p ≡ Some j = sym (found_as p) ∙ there in
+          let spared = s.spared n p off in
+          clean_since n j log.changes sets (unaltered_at p j spared.1 before)
+          (kept.known.written n p j (λ part. let e : (let o : Option Route = None in o) ≡ Some p = sym s.no_part ∙ part in let x : ⊥ = cc in x) spared.0 before);
       stand = λ p there_stands. calm_firm told dirty marks log sets kept.known nameless p (elim (s.folders p there_stands) [ inl before ↦ kept.known.stand p before | inr firm ↦ firm ]);
     }

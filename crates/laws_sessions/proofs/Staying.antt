@@ -1,12 +1,13 @@
 -- A path of which no change waits for a sync waits for none until an entry names it: each step is asked with what waits before it.
-use Rattle.std.proofs.Common.{◌≡◌, ℕ, ◌+◌, ◌≤◌, Bool, true, false, ◌||◌, List, [], ◌∷◌, ◌++◌, length, refl, sym, ◌∙◌, ap, subst, inl, inr, Option, Some, None, arith, append_assoc, append-nil}
-use Rattle.std.specs.Prelude.{◌==◌, if◌then◌else◌, map}
+use Rattle.std.proofs.Common.{◌≡◌, ℕ, ◌+◌, ◌≤◌, Bool, true, false, ◌||◌, List, [], ◌∷◌, ◌++◌, length, refl, sym, ◌∙◌, ap, subst, inl, inr, Option, Some, None, arith, append_assoc, append-nil, drop}
+use Rattle.std.specs.Prelude.{◌==◌, if◌then◌else◌, map, not}
 use Rattle.std.specs.Option.{option_map_or}
-use Rattle.std.proofs.lemmas.Bool.{true≢false, both_ways, false_from_ne_true}
+use Rattle.std.proofs.lemmas.Bool.{true≢false, both_ways, false_from_ne_true, not-false}
 use Rattle.mc_text.specs.Routes.{Route, same_path}
+use Rattle.tree_trait.specs.FileSystem.{find}
 use Rattle.tree_trait.specs.Shape.{IsTree}
 use Rattle.tree_trait.specs.Change.{Change, CallLog, current}
-use Rattle.tree_trait.specs.CrashImages.{all_settled}
+use Rattle.tree_trait.specs.CrashImages.{all_settled, is_clean}
 use Rattle.tree_trait.proofs.Visible.{same_path-self, same_path-true}
 use Rattle.job_reports.specs.declared.report.Transfer.TheVariants.{ByCopy}
 use Rattle.job_reports.specs.Jobs.{ItemOfJob, item_of}
@@ -39,10 +40,11 @@ use Rattle.laws_sessions.proofs.Moments.{prefix_cut, prefix_is, live_part, log_o
 use Rattle.laws_sessions.proofs.MovedPaths.{off_ends}
 use Rattle.laws_sessions.proofs.Reports.{JobsKnow}
 use Rattle.laws_sessions.proofs.Stepped.{AreMids, StepRan, cut, doubt_by, mid_at, more, said_after}
+use Rattle.laws_sessions.proofs.Since.{altered_since, renamed_since, since_first}
 
 -- what a history says, where a change may wait only of the paths of which one waits now, and a mode only where one does
 abbrev pub doubting : HistoryFacts → CallLog → HistoryFacts
-doubting told log = record told { doubt = name_waits log; modes = node_waits log }
+doubting told log = record told { doubt = λ n. renamed_since n log; written = λ n. altered_since n log; modes = node_waits log }
 
 module _ (told : HistoryFacts) (log : CallLog) where
   pub work_doubting : (dirty : List Route) (marks : Marks) (now : CallLog) (course : Course) (work : Work) → WorkKnows told dirty marks now course work → WorkKnows (doubting told log) dirty marks now course work
@@ -66,7 +68,9 @@ module _ (told : HistoryFacts) (log : CallLog) where
       part = kept.known.part;
       tracked = kept.known.tracked;
       joint = kept.known.joint;
-      doubts = λ p waits. waits;
+      doubts = λ n p waits. waits;
+      written = λ n p i other off at.
+          not-false (is_clean i (drop n log.changes)) (sym (ap (λ o. option_map_or (λ j. not (is_clean j (drop n log.changes))) o false) at) ∙ off);
       stand = kept.known.stand;
     };
     aside = kept.aside;
@@ -87,16 +91,16 @@ untold_facts : (a b : Bool) → a ≡ false → b ≡ false → (a || b) ≡ fal
 untold_facts a b a_is b_is = false_from_ne_true _ (neither a b a_is b_is)
 
 -- a report that doesn't name a path, which is no part, leaves no change of it
-unnamed_sure : (did : Did) (part : Option Route) (before : Route → Bool) (path : Route) → before path ≡ false → names did path ≡ false → (part ≡ Some path → ⊥) → doubt_by did part before path ≡ false
-unnamed_sure (Began made) part before path sure unnamed other = untold_facts (before path) (same_path path made) sure unnamed
-unnamed_sure (Placed target) part before path sure unnamed other =
-    untold_facts (before path || same_path path target) (option_map_or (same_path path) part false) (untold_facts (before path) (same_path path target) sure unnamed) (no_route part path other)
-unnamed_sure (Removed file) part before path sure unnamed other = untold_facts (before path) (same_path path file) sure unnamed
-unnamed_sure (Cleaned gone) part before path sure unnamed other = untold_facts (before path) (same_path path gone) sure unnamed
-unnamed_sure (Set changed) part before path sure unnamed other = untold_facts (before path) (same_path path changed) sure unnamed
-unnamed_sure (Made folder) part before path sure unnamed other = untold_facts (before path) (same_path path folder) sure unnamed
-unnamed_sure (Moved pair) part before path sure unnamed other = untold_facts (before path) (same_path path pair.source || same_path path pair.target) sure (off_ends pair path unnamed)
-unnamed_sure did part before path sure unnamed other = sure
+pub unnamed_sure : (did : Did) (part : Option Route) (before : ℕ → Route → Bool) (n : ℕ) (path : Route) → before n path ≡ false → names did path ≡ false → (part ≡ Some path → ⊥) → doubt_by did part before n path ≡ false
+unnamed_sure (Began made) part before n path sure unnamed other = untold_facts (before n path) (same_path path made) sure unnamed
+unnamed_sure (Placed target) part before n path sure unnamed other =
+    untold_facts (before n path || same_path path target) (option_map_or (same_path path) part false) (untold_facts (before n path) (same_path path target) sure unnamed) (no_route part path other)
+unnamed_sure (Removed file) part before n path sure unnamed other = untold_facts (before n path) (same_path path file) sure unnamed
+unnamed_sure (Cleaned gone) part before n path sure unnamed other = untold_facts (before n path) (same_path path gone) sure unnamed
+unnamed_sure (Set changed) part before n path sure unnamed other = untold_facts (before n path) (same_path path changed) sure unnamed
+unnamed_sure (Made folder) part before n path sure unnamed other = untold_facts (before n path) (same_path path folder) sure unnamed
+unnamed_sure (Moved pair) part before n path sure unnamed other = untold_facts (before n path) (same_path path pair.source || same_path path pair.target) sure (off_ends pair path unnamed)
+unnamed_sure did part before n path sure unnamed other = sure
 
 -- from one log to another nothing of a kind waits, before each call and at the end
 pub record IsStill (waits : CallLog → Bool) (before now : CallLog) : Type 0 where
@@ -112,8 +116,8 @@ abbrev NameStill : Route → CallLog → CallLog → Type 0
 NameStill path before now = IsStill (λ log. name_waits log path) before now
 
 -- nor does one where none is said to
-pub unsaid : (said : HistoryFacts) (path : Route) → said.doubt path ≡ false → (dirty : List Route) (marks : Marks) (log : CallLog) → IsKept said dirty marks log → name_waits log path ≡ false
-unsaid said path sure dirty marks log kept = false_from_ne_true _ (λ waits. both_ways _ sure (kept.known.doubts path waits))
+pub unsaid : (said : HistoryFacts) (path : Route) → said.doubt 0 path ≡ false → (dirty : List Route) (marks : Marks) (log : CallLog) → IsKept said dirty marks log → name_waits log path ≡ false
+unsaid said path sure dirty marks log kept = false_from_ne_true _ (λ waits. both_ways _ sure (kept.known.doubts 0 path (since_first log path ∙ waits)))
 
 still_by : (told : HistoryFacts) (dirty_after : List Route) (before now : CallLog) (did : Did) (work : Work) (knows : Marks → Type 0) (path : Route) → name_waits before path ≡ false → names did path ≡ false
     → (told.part ≡ Some path → ⊥) → StepRan (doubting told before) (said_after now did work (doubting told before)) dirty_after before now knows → NameStill path before now
@@ -122,8 +126,8 @@ still_by told dirty_after before now did work knows path sure unnamed other come
   now_is = come.now_is;
   said = doubting told before;
   mids = come.mids;
-  sure = unsaid (doubting told before) path sure;
-  after = unsaid (said_after now did work (doubting told before)) path (unnamed_sure did told.part (name_waits before) path sure unnamed other) dirty_after come.marks now come.kept;
+  sure = unsaid (doubting told before) path (since_first before path ∙ sure);
+  after = unsaid (said_after now did work (doubting told before)) path (unnamed_sure did told.part (λ n. renamed_since n before) 0 path (since_first before path ∙ sure) unnamed other) dirty_after come.marks now come.kept;
 }
 
 module _ (opening : CallLog) (older : List Entry) (was : Stand) (before : CallLog) (r : IsReached opening older was before) (path : Route) (sure : name_waits before path ≡ false) (other : r.part ≡ Some path → ⊥) where
@@ -155,7 +159,7 @@ module _ (opening : CallLog) (older : List Entry) (was : Stand) (before : CallLo
     now_is = same ∙ ap (log_of before) (sym (append-nil before.changes));
     said = doubting told before;
     mids = tt;
-    sure = unsaid (doubting told before) path sure;
+    sure = unsaid (doubting told before) path (since_first before path ∙ sure);
     after = subst (λ (l : CallLog). name_waits l path ≡ false) (sym same) sure;
   }
 

@@ -69,15 +69,27 @@ part_after (Ended ending part) before = None
 part_after did before = before
 
 -- of which paths a change may wait then
-abbrev pub doubt_by : Did → Option Route → (Route → Bool) → Route → Bool
-doubt_by (Began made) part before = λ p. before p || same_path p made
-doubt_by (Placed path) part before = λ p. (before p || same_path p path) || option_map_or (same_path p) part false
-doubt_by (Removed path) part before = λ p. before p || same_path p path
-doubt_by (Cleaned gone) part before = λ p. before p || same_path p gone
-doubt_by (Set path) part before = λ p. before p || same_path p path
-doubt_by (Made path) part before = λ p. before p || same_path p path
-doubt_by (Moved pair) part before = λ p. before p || (same_path p pair.source || same_path p pair.target)
+abbrev pub doubt_by : Did → Option Route → (ℕ → Route → Bool) → ℕ → Route → Bool
+doubt_by (Began made) part before = λ n p. before n p || same_path p made
+doubt_by (Placed path) part before = λ n p. (before n p || same_path p path) || option_map_or (same_path p) part false
+doubt_by (Removed path) part before = λ n p. before n p || same_path p path
+doubt_by (Cleaned gone) part before = λ n p. before n p || same_path p gone
+doubt_by (Set path) part before = λ n p. before n p || same_path p path
+doubt_by (Made path) part before = λ n p. before n p || same_path p path
+doubt_by (Moved pair) part before = λ n p. before n p || (same_path p pair.source || same_path p pair.target)
 doubt_by did part before = before
+
+-- and where something may have been altered
+abbrev pub written_by : Did → (ℕ → Route → Bool) → ℕ → Route → Bool
+written_by (Began made) before = λ n p. before n p || same_path p made
+written_by (Placed path) before = λ n p. before n p || same_path p path
+written_by (Removed path) before = λ n p. before n p || same_path p path
+written_by (Cleaned gone) before = λ n p. before n p || same_path p gone
+written_by (Set path) before = λ n p. before n p || same_path p path
+written_by (Made path) before = λ n p. before n p || same_path p path
+written_by (Moved pair) before = λ n p. before n p || is_of_move pair p
+written_by (Ended ending (Some part)) before = λ n p. before n p || same_path p part
+written_by did before = before
 
 -- the folder of a job's item is on the disk from its first change on, until it is removed or moved, and so is that of each part or thing which a report names; of a
 -- move both
@@ -115,6 +127,7 @@ said_after now did work told = record {
   left = left_by did told.left;
   part = part_after did told.part;
   doubt = doubt_by did told.part told.doubt;
+  written = written_by did told.written;
   folders = folders_by did (folder_changed (item_in work)) told.folders;
   modes = modes_by did told.modes;
   calm = calm_by did (item_in work) told.calm;

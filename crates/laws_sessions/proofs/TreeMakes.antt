@@ -1,7 +1,7 @@
 -- Where a copy of folders makes a folder, or a trouble comes before.
 use Rattle.std.proofs.Common.{◌≡◌, ℕ, Bool, true, false, ◌||◌, List, [], ◌∷◌, refl, sym, ◌∙◌, ap, subst, inl, inr, Option, Some, None, arith}
 use Rattle.std.specs.Prelude.{pos}
-use Rattle.std.proofs.lemmas.Bool.{both_ways, false_from_ne_true, or_cases, or_left, or_right}
+use Rattle.std.proofs.lemmas.Bool.{both_ways, false_from_ne_true, or_cases, or_left, or_right, or_parts}
 use Rattle.mc_text.specs.Routes.{Route, same_path}
 use Rattle.mc_text.specs.declared.kind.Kind.TheVariants as kind
 use Rattle.tree_trait.specs.declared.file_system.Node.{Node}
@@ -214,8 +214,9 @@ module _ (told : HistoryFacts) (dirty dirty_after : List Route) (marks : Marks) 
             ∙ ap (λ v. (let x : Spot = record { value = Some v; is_mount = false } in x)) said_so;
         earlier = ap (λ (s : Spot). s.value) (put_at told.earlier made_path (told.tree made_path).value) ∙ ap (λ (s : Spot). s.value) nothing_told;
         no_part = part_none;
-        doubts = λ p h. or_left _ _ h;
-        doubted = or_right _ _ (same_path-self made_path);
+        doubts = λ n p h. or_left _ _ h;
+        doubted = λ n. or_right _ _ (same_path-self made_path);
+        spared = λ n p off. or_parts (told.written n p) (same_path p made_path) off;
         modes = λ p h. h;
         calm = λ p there. elim (or_cases (may_change (Copies c.top.source c.top.target) p) (told.calm p) there) [ inl own ↦ inr (may.calm p own) | inr before ↦ inl (or_right _ _ before) ];
         new_mode = kept.modes (new_node log) (kept.known.files.unborn (new_node log) (omega arith));

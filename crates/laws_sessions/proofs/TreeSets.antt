@@ -2,7 +2,7 @@
 use Rattle.std.proofs.Common.{◌≡◌, ℕ, Bool, true, false, not, ◌&&◌, ◌||◌, List, [], ◌∷◌, ◌++◌, length, refl, sym, ◌∙◌, ap, subst, inl, inr, Option, Some, None, arith}
 use Rattle.std.specs.Prelude.{unwrap_or}
 use Rattle.std.specs.Option.{option_map}
-use Rattle.std.proofs.lemmas.Bool.{both_ways, false≢true, or_cases, or_left, or_right}
+use Rattle.std.proofs.lemmas.Bool.{both_ways, false≢true, or_cases, or_left, or_right, or_parts}
 use Rattle.std.proofs.lemmas.List.{length-append}
 use Rattle.mc_text.specs.Routes.{Route, same_path}
 use Rattle.tree_trait.specs.Calls.{SetMode}
@@ -194,7 +194,8 @@ module _ (told : HistoryFacts) (dirty dirty_after : List Route) (marks : Marks) 
       off = λ p off. (put_off told.tree up given p off, put_off told.earlier up (told.tree up).value p off);
       shown = put_at told.tree up given ∙ ap (λ x. (let s : Spot = record (told.tree up) { value = x } in s)) given_is;
       earlier = ap (λ (s : Spot). s.value) (put_at told.earlier up (told.tree up).value);
-      doubts = λ p h. or_left _ _ h;
+      doubts = λ n p h. or_left _ _ h;
+      spared = λ n p off. or_parts (told.written n p) (same_path p up) off;
       folders = λ p there. elim (or_cases (same_path p (folder_of top.target) || same_path p (folder_of up)) (told.folders p) there) [
         | inl first ↦ elim (or_cases (same_path p (folder_of top.target)) (same_path p (folder_of up)) first) [
           | inl here ↦ inl (subst (λ q. told.folders q ≡ true) (sym (same_path-true p (folder_of top.target) here)) has_known.folder)

@@ -1,7 +1,7 @@
 -- Each last step of a copy of folders keeps what is known: its part is removed, a folder's sync is tried, and all ends.
 use Rattle.std.proofs.Common.{◌≡◌, ℕ, true, false, List, refl, sym, ◌∙◌, ap, subst, inl, inr, Option, Some, None, Ok}
 use Rattle.std.specs.Option.{option_map_or}
-use Rattle.std.proofs.lemmas.Bool.{both_ways, false_from_ne_true, or_left, or_right, true≢false}
+use Rattle.std.proofs.lemmas.Bool.{both_ways, false_from_ne_true, or_left, or_right, true≢false, or_parts}
 use Rattle.mc_text.specs.Routes.{Route, same_path}
 use Rattle.tree_trait.specs.declared.file_system.FileSystem.{FileSystem}
 use Rattle.tree_trait.specs.declared.calls.TreeError.{TreeError}
@@ -130,11 +130,12 @@ module _ (told : HistoryFacts) (dirty dirty_after : List Route) (marks : Marks) 
             gone = (kept.known.part part left.part_is).1;
             was = λ out. absurd (both_ways _ out aside);
             part = refl;
-            doubts = λ p h. or_left _ _ h;
+            doubts = λ n p h. or_left _ _ h;
+            spared = λ n p off. (or_parts (told.written n p) (same_path p part) off).0;
             folders = λ p there. (no_file p (let firm = kept.known.stand p there in firm.stands), inl there);
             modes = λ p h. h;
             calm = λ p h. inl h;
-            doubted = or_right _ _ (same_path-self part);
+            doubted = λ n. or_right _ _ (same_path-self part);
           }) (λ out. absurd (both_ways _ out aside)) kept.roams (way it) (none_of_part told dirty marks log kept part it.r.i (removal_leads log now part it) aside)
           (file_unjoined log now part it kept.known.guarded.tree kept.known.files (ap (λ o. option_map_or (λ j. is_folder (node (current log) j)) o false) left.leads ∙ left.bare))
           (subst (λ q. Among dirty q) (ap folder_of it.r.path_is) listed) (λ q among off. among) in

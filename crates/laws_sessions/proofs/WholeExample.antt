@@ -116,7 +116,7 @@ at_target = (after_change (current (log [])) renaming, inl (inl refl), refl, ref
 -- and at one of them after any
 pub stays_whole : (image : FileSystem) → IsCrashImage half_log 2 image → IsWholeAt image pair [] (visible_tree (current (log [])))
 stays_whole image left =
-    whole_law (log []) half_log half_entries (stand (job SyncSource ∷ []) (top ∷ [])) small_tree refl half_traced begun_entries half_entries half_entries moving 1 pair 2 image refl (inl (refl, refl, refl)) (inr (refl, inl refl)) left
+    whole_law (log []) half_log half_entries (stand (job SyncSource ∷ []) (top ∷ [])) small_tree refl half_traced begun_entries half_entries half_entries moving 1 pair 2 image refl (inl (refl, refl, refl)) (inr (λ path on. refl, inl refl)) left
 
 -- The job ends before any sync, for want of memory, and another one is begun, which first syncs the folder of the target: the log is the same, so it may be at either
 -- place still, and it is at one of them.
@@ -190,7 +190,7 @@ owed_traced = (
 pub stays_whole_later : (image : FileSystem) → IsCrashImage half_log 2 image → IsWholeAt image pair [] (visible_tree (current (log [])))
 stays_whole_later image left =
     whole_law (log []) half_log owed_entries (stand (maker ∷ []) (top ∷ [])) small_tree refl owed_traced begun_entries owed_entries owed_entries moving 1 pair 2 image refl (inl (refl, refl, refl))
-    (inr (refl, inr (refl, inr (refl, inl refl)))) left
+    (inr (λ path on. refl, inr (λ path on. refl, inr (λ path on. refl, inl refl)))) left
 
 -- the folder gets another name in the one around it, and its files go along
 abbrev folder_pair : Pair

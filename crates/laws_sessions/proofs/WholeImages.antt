@@ -112,7 +112,7 @@ module _ (log : CallLog) (parts : List Route) (old : List ℕ) (from : Route) (n
             ∙ (same_lead up h m (sym settled ∙ is) not_source not_target ∙ sym (ap (option_and_then (λ k. lookup mid.names k m)) is))
 
     -- the way to the target's folder
-    way_stays : (up rest : Route) → to ≡ rest ++ up → find renamed up ≡ find mid up
+    pub way_stays : (up rest : Route) → to ≡ rest ++ up → find renamed up ≡ find mid up
     way_stays [] rest is = refl
     way_stays (m ∷ up) rest is =
         let longer : to ≡ (rest ++ m ∷ []) ++ up = is ∙ sym (append_assoc rest (m ∷ []) up) in
@@ -120,7 +120,7 @@ module _ (log : CallLog) (parts : List Route) (old : List ℕ) (from : Route) (n
         (λ e. may.not_into rest (is ∙ ap (λ (q : Route). rest ++ q) e)) (λ e. not_longer rest new to (is ∙ ap (λ (q : Route). rest ++ q) e))
 
     -- what lay at the source, and below, is where it went
-    goes_along : (rest : Route) → find renamed (rest ++ target) ≡ find mid (rest ++ source)
+    pub goes_along : (rest : Route) → find renamed (rest ++ target) ≡ find mid (rest ++ source)
     goes_along [] =
         let stands : find renamed to ≡ Some g = way_stays to [] refl ∙ (may.way [] to refl (find mid to) (find_law log mid to left) ∙ may.to_at) in
         ap (option_and_then (λ k. lookup renamed.names k new)) stands
@@ -135,38 +135,3 @@ module _ (log : CallLog) (parts : List Route) (old : List ℕ) (from : Route) (n
 
         not_target : (rest : Route) → (m ∷ rest ++ source) ≡ target → ⊥
         not_target rest e = may.not_into rest (let same : to ≡ rest ++ source = cc in same)
-
-  -- It stands here in an image as it stood at the source.
-  abbrev pub StandsThere : FileSystem → Route → Type 0
-  StandsThere image top = (rest : Route) → (Among parts (rest ++ source) → ⊥) → value_at image (rest ++ top) ≡ value_at (current log) (rest ++ source)
-
-  pub renamed_seen : (image : FileSystem) → IsImage now image → StandsThere image source ⊎ StandsThere image target
-  renamed_seen image left =
-      elim x.how [
-        | inl kept ↦ inr (λ rest out.
-            ap (λ (s : FileSystem). value_at s (rest ++ target)) kept
-            ∙ (ap (option_map (λ k. value (node x.mid k))) (goes_along x.mid x.left rest) ∙ stays_seen log parts source i may.rests x.mid x.left rest out))
-        | inr lost ↦ inl (λ rest out. ap (λ (s : FileSystem). value_at s (rest ++ source)) lost ∙ stays_seen log parts source i may.rests x.mid x.left rest out)
-      ]
-    where
-      x : Grown log moves image
-      x = grown log moves image left
-
--- no call was made, or one that leaves the images that there were
-abbrev pub IsCalmCall : CallLog → CallLog → Type 0
-IsCalmCall log now = (now ≡ log) ⊎ IsStill log now
-
-still_images : (log : CallLog) (c : Change) (image : FileSystem) → (c ≡ Nothing) ⊎ ((f : ℕ) × (c ≡ Syncs f)) → IsImage (with_change log c) image → IsImage log image
-still_images log c image how left = by c how (grown log c image left)
-  where
-    unchanged : (mid : FileSystem) → (image ≡ mid) ⊎ (image ≡ mid) → IsImage log mid → IsImage log image
-    unchanged mid (inl same) before = subst (IsImage log) (sym same) before
-    unchanged mid (inr same) before = subst (IsImage log) (sym same) before
-
-    by : (c : Change) → (c ≡ Nothing) ⊎ ((f : ℕ) × (c ≡ Syncs f)) → Grown log c image → IsImage log image
-    by c (inl is) x = unchanged x.mid (subst (λ d. (image ≡ after_change x.mid d) ⊎ Lost x.mid d image) is x.how) x.left
-    by c (inr (f, is)) x = unchanged x.mid (subst (λ d. (image ≡ after_change x.mid d) ⊎ Lost x.mid d image) is x.how) x.left
-
-pub calm_images : (log later : CallLog) (image : FileSystem) → IsCalmCall log later → IsImage later image → IsImage log image
-calm_images log later image (inl same) left = subst (λ (l : CallLog). IsImage l image) same left
-calm_images log later image (inr (c, is, how)) left = still_images log c image how (subst (λ (l : CallLog). IsImage l image) is left)

@@ -88,8 +88,8 @@ pub fn what_was_finished_stays()
 {}
 
 /// In one and the same crash image a thing that is moved is whole at its source or at its target, a folder
-/// with all that lies in it, until its job takes up another source or the next job begins; what stays then,
-/// the law before this one says.
+/// with all that lies in it, until an entry names a path that is one of the two, or lies above one or below
+/// it; what stays once the job is done with it, the law before this one says.
 pub fn what_a_crash_leaves_of_a_moved_thing()
     ensures { WholeLaw }
 {}

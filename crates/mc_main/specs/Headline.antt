@@ -33,7 +33,7 @@ IsSafeRun opening now newest =
 
 -- A thing that is moved is whole at its source or at its target in one and the same image, with all
 -- that lies in it, but for parts, from the entry that tells of it on, and within it, until another one
--- tells that a change is begun.
+-- names a path that meets one of the two.
 abbrev pub IsWholeRun : CallLog → CallLog → List Entry → Type 0
 IsWholeRun opening now newest = IsTree (current opening) → all_settled opening.changes ≡ true
     → LeavesWhole opening now newest

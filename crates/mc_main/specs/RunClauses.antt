@@ -29,8 +29,9 @@ pub record KeepsTree (opening now : CallLog) (newest : List Entry) : Type 0 wher
   -- replaced and that is on the disk; one that was left and then replaced, as long as something stands there.
   pub safe : IsSafeRun opening now newest
   -- A thing that is moved is whole at its source or at its target, in one and the same image, with all that
-  -- lies in it, at each moment from its renaming on, inside that too, until another change is begun; but for
-  -- one that was named as a part.
+  -- lies in it, at each moment from its renaming on, inside that too, whatever is done elsewhere, until an
+  -- entry names a path that is one of the two, or lies above one or below it; but for one that was named as
+  -- a part.
   pub whole : IsWholeRun opening now newest
   -- What a job did for a source with which it is done stays done, at each later moment, until an entry names
   -- the path again, or one above it: at each path that the source touches, and at each that the job named as
