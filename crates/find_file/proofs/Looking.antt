@@ -23,7 +23,7 @@ use Rattle.find_file.specs.declared.walk.Walk.{Walk}
 use Rattle.find_file.specs.declared.walk.Task.{Task}
 use Rattle.find_file.specs.declared.walk.Task.TheVariants.{Look, List as ListTask}
 use Rattle.find_file.specs.FoundList.Turn.{At, Tells}
-use Rattle.find_file.specs.FoundList.{Turn, is_by_name, holds, brings, path_if, read_turns, by_kind, look_turns, child, names_in, turns_below}
+use Rattle.find_file.specs.FoundList.{Turn, is_by_name, holds, brings, path_if, turns_of_bytes, read_turns, by_kind, look_turns, child, names_in, turns_below}
 use Rattle.find_file.specs.Folders.{OpenFolder, child_of}
 use Rattle.find_file.specs.Walks.{of_child, of_children, of_folder, of_folders, of_task, left_in, rank_of_folder, rank_of_folders, rank_of, rank}
 use Rattle.find_file.specs.Telling.{place_of, call_of, Leads, Leaves, Advances, Steps, StandsAt, Works, with_task}
@@ -31,6 +31,16 @@ use Rattle.find_file.proofs.InOrder.{listed_names}
 use Rattle.find_file.proofs.Levels.{turns_below_is}
 use Rattle.find_file.proofs.Ranking.{rank-done, rank-in}
 use Rattle.find_file.proofs.Standing.{left-at, rank-at, leads-now}
+
+-- what reading a file brings, by whether it has bytes
+no-bytes : (s : FileSystem) (search : Search) (path : Route) (bytes : List ℕ) → 0 ≡ length bytes → turns_of_bytes s search path bytes ≡ []
+no-bytes s search path [] none = refl
+no-bytes s search path (byte ∷ bytes) none = absurd (omega (arith, none))
+
+some-bytes : (s : FileSystem) (search : Search) (path : Route) (bytes : List ℕ) → 0 < length bytes
+    → turns_of_bytes s search path bytes ≡ brings (refusal_of s (ReadAt path 0 0)) path (path_if (holds search.content bytes) path)
+some-bytes s search path [] more = absurd (omega (arith, more))
+some-bytes s search path (byte ∷ bytes) more = refl
 
 -- what a look at a thing brings, by its kind
 pub look-kind : (s : FileSystem) (search : Search) (is_named : Bool) (path : Route) (below : List Turn) (kind : Kind)
@@ -97,10 +107,18 @@ module _ (s : FileSystem) (search : Search) (old : Walk) (none : old.task ≡ No
     pub unread-file : (is_named && not (is_by_name search)) ≡ false → Leads at_look (left_in s search new)
     unread-file unasked = looked-on [] new same (looks-at-file ∙ ap (λ b. At path ∷ cond b (read_turns s search path) []) unasked)
 
-    module _ (asks : (is_named && not (is_by_name search)) ≡ true) (allowed : refusal_of s (ReadAt path 0 0) ≡ None) where
+    module _ (asks : (is_named && not (is_by_name search)) ≡ true) where
+      -- one without bytes, which isn't read either
+      pub empty-file : 0 ≡ length (node s (found_node s path)).bytes → Leads at_look (left_in s search new)
+      empty-file none = looked-on [] new same
+          (looks-at-file ∙ ap (λ b. At path ∷ cond b (read_turns s search path) []) asks
+          ∙ ap (λ l. At path ∷ l) (no-bytes s search path (node s (found_node s path)).bytes none))
+
+    module _ (asks : (is_named && not (is_by_name search)) ≡ true) (more : 0 < length (node s (found_node s path)).bytes) (allowed : refusal_of s (ReadAt path 0 0) ≡ None) where
       looks-in-file : (b : Bool) → b ≡ holds search.content (node s (found_node s path)).bytes → look_turns s search is_named path (turns_below s search path) ≡ At path ∷ path_if b path
       looks-in-file b is =
           looks-at-file ∙ ap (λ b. At path ∷ cond b (read_turns s search path) []) asks
+          ∙ ap (λ l. At path ∷ l) (some-bytes s search path (node s (found_node s path)).bytes more)
           ∙ ap (λ o. At path ∷ brings o path (path_if (holds search.content (node s (found_node s path)).bytes) path)) allowed
           ∙ ap (λ b. At path ∷ path_if b path) (sym is)
 
@@ -273,13 +291,15 @@ module _ (log : CallLog) (search : Search) (old : Walk) (none : old.task ≡ Non
       new r refl (λ allowed. allowed) h ok err
 
   pub read-refused : (path : Route) (is_named : Bool) → refusal_of (current log) (Stat path) ≡ None → (node (current log) (found_node (current log) path)).kind ≡ kinds.File
-      → (is_named && not (is_by_name search)) ≡ true → Reads {A = A} log (ReadAt path 0 0) (Err e) P
+      → (is_named && not (is_by_name search)) ≡ true → 0 < length (node (current log) (found_node (current log) path)).bytes
+      → Reads {A = A} log (ReadAt path 0 0) (Err e) P
       → IfOk r (λ told. (told ≡ Some (Skipped path e)) × (e ≢ Memory) × (new ≡ old)) → IfErr r (λ _. (e ≡ Memory) × (new ≡ with_task old (Look path is_named)))
       → Steps (current log) search (with_task old (Look path is_named)) r new
-  read-refused path is_named stands kind asks h ok err =
+  read-refused path is_named stands kind asks more h ok err =
       refused log search old none A P (Look path is_named) (ReadAt path 0 0) e
       (path_if (holds search.content (node (current log) (found_node (current log) path)).bytes) path) new r
-      (look-kind (current log) search is_named path (turns_below (current log) search path) kinds.File stands kind ∙ ap (λ b. At path ∷ cond b (read_turns (current log) search path) []) asks)
+      (look-kind (current log) search is_named path (turns_below (current log) search path) kinds.File stands kind ∙ ap (λ b. At path ∷ cond b (read_turns (current log) search path) []) asks
+      ∙ ap (λ l. At path ∷ l) (some-bytes (current log) search path (node (current log) (found_node (current log) path)).bytes more))
       (λ allowed. stands) h ok err
 
 -- the tests of a reading

@@ -1,7 +1,7 @@
 -- A file that is read piece by piece: what is kept, the piece, and what is still to be read.
 use Rattle.std.proofs.Common.{◌≡◌, ℕ, ◌+◌, ◌-◌, ◌<◌, ◌≤◌, true, false, List, ◌++◌, length, take, drop, sym, ap, subst, ◌∙◌, arith, append_assoc, length-drop}
 use Rattle.std.specs.Prelude.{Option, Some, None, MatchOption, Err}
-use Rattle.std.proofs.lemmas.List.{append-nil, take-append-drop, drop-drop, drop_all}
+use Rattle.std.proofs.lemmas.List.{append-nil, take-append-drop, drop-drop, drop_all, drop-take, take-take, length-take}
 use Rattle.mc_text.specs.Routes.{Route}
 use Rattle.tree_trait.specs.declared.calls.TreeError.{TreeError}
 use Rattle.tree_trait.specs.declared.calls.TreeError.TheVariants.{Missing, NotFolder, Denied, Exists, IsFolder, NotEmpty, IntoItself, Mounted, CrossMount, NoSpace, Special, Fault, Memory}
@@ -45,6 +45,25 @@ module _ (content file : List ℕ) (offset : ℕ) (some : 1 ≤ length content) 
 
 pub last-short : (stretch last : List ℕ) (width : ℕ) → 1 ≤ width → last ≡ drop (length stretch - (width - 1)) stretch → length last < width
 last-short stretch last width some is = omega (arith, ap length is, length-drop (length stretch - (width - 1)) stretch)
+
+-- ---- the first bytes of a file
+
+-- what is read of a file before so many bytes is read of these
+pub first-piece : (file piece : List ℕ) (size offset : ℕ) → offset ≤ size → length piece ≤ size - offset
+    → piece ≡ take (length piece) (drop offset file) → piece ≡ take (length piece) (drop offset (take size file))
+first-piece file piece size offset passed few is =
+    let whole : size ≡ offset + (size - offset) = omega arith in
+    is
+    ∙ (sym (take-take (length piece) (size - offset) (drop offset file) few)
+    ∙ (sym (ap (take (length piece)) (drop-take offset (size - offset) file))
+    ∙ sym (ap (λ n. take (length piece) (drop offset (take n file))) whole)))
+
+-- where the file is at its end, so are these
+pub first-end : (file : List ℕ) (size offset : ℕ) → length file ≤ offset → length (take size file) ≤ offset
+first-end file size offset past = omega (arith, past, length-take size file)
+
+pub first-all : (file : List ℕ) (size offset : ℕ) → size ≤ offset → length (take size file) ≤ offset
+first-all file size offset past = omega (arith, past, length-take size file)
 
 -- ---- what the tree answers
 

@@ -56,10 +56,15 @@ brings (Some error) path turns = Tells (Skipped path error) ∷ []
 abbrev pub path_if : Bool → Route → List Turn
 path_if is path = if is then Tells (Path path) ∷ [] else []
 
+-- what a file of these bytes brings where a content is sought; one without bytes isn't read
+abbrev pub turns_of_bytes : FileSystem → Search → Route → List ℕ → List Turn
+turns_of_bytes s search path [] = []
+turns_of_bytes s search path (byte ∷ bytes) = brings (refusal_of s (ReadAt path 0 0)) path
+    (path_if (holds search.content (byte ∷ bytes)) path)
+
 -- what reading a file brings
 abbrev pub read_turns : FileSystem → Search → Route → List Turn
-read_turns s search path = brings (refusal_of s (ReadAt path 0 0)) path
-    (path_if (holds search.content (node s (found_node s path)).bytes) path)
+read_turns s search path = turns_of_bytes s search path (node s (found_node s path)).bytes
 
 -- what a thing of a kind brings once it was looked at; `below` is what comes of what lies below it
 abbrev pub by_kind : Kind → FileSystem → Search → Bool → Route → List Turn → List Turn

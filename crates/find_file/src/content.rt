@@ -1,5 +1,5 @@
-//! Whether a file holds some bytes.
-ghost use Rattle.std.specs.Prelude.{◌≡◌, ◌≤◌, ◌<◌, ◌-◌, ◌^◌, ◌++◌, length};
+//! Whether a file holds some bytes, among as many as it was said to have.
+ghost use Rattle.std.specs.Prelude.{◌≡◌, ◌≤◌, ◌<◌, ◌-◌, ◌++◌, length};
 ghost use Rattle.std.specs.Prelude.{drop, take, IfOk, IfSome, MatchOption};
 ghost use Rattle.tree_trait.specs.Calls.{ReadAt};
 ghost use Rattle.tree_trait.specs.FileSystem.{node};
@@ -12,52 +12,58 @@ use memchr::memmem::Finder;
 use std::alloc::{AllocError, Global};
 use tree_trait::{ReadTree, TreeError};
 
-/// The most bytes that a file has.
-const FILE_BYTES: u64 = 1 << 63;
-
 /// The most bytes that a piece has.
-const PIECE_BYTES: usize = 65536;
+const PIECE_BYTES: u64 = 65536;
 
-/// Whether a file holds these bytes, of which there are some. It is read piece by piece up to the first
-/// place, and as many bytes are kept from one piece to the next as may begin a place.
+/// Whether a file holds these bytes, of which there are some, among so many of its first ones: no more are
+/// read, however many it gives. It is read piece by piece up to the first place, and as many bytes are kept
+/// from one piece to the next as may begin a place.
 pub fn file_holds<T: ReadTree>(
     alloc: Global,
     tree: &mut T,
     path: &Path,
     content: &[u8],
+    size: u64,
 ) -> Result<bool, TreeError>
     requires some { 1 ≤ length content.now }
-    ensures answer { IfKnown (T.contents tree.old) (λ log.
-        length (node (current log) (found_node (current log) path.now)).bytes ≤ 2 ^ 63
-        → Reads log (ReadAt path.now 0 0) result (λ is.
-        is ≡ holds content.now (node (current log) (found_node (current log) path.now)).bytes)) }
+    requires more { 0 < size }
+    ensures answer { IfKnown (T.contents tree.old) (λ log. Reads log (ReadAt path.now 0 0) result (λ is.
+        is ≡ holds content.now (take size (node (current log) (found_node (current log) path.now)).bytes))) }
     ensures same { T.contents tree.new ≡ T.contents tree.old }
     ensures cause { HasCause TreeError.Fault (T.fault_count tree.old) (T.fault_count tree.new) result }
 {
-    read_through(alloc, tree, path, &Finder::new(content), content.len())
+    read_through(
+        alloc,
+        tree,
+        path,
+        &Finder::new(content),
+        content.len(),
+        size,
+    )
 }
 
-/// Reads a file from its beginning to the first place where the finder's bytes stand, or to its end.
+/// Reads so many of a file's first bytes, up to the first place where the finder's bytes stand among them.
 fn read_through<T: ReadTree>(
     alloc: Global,
     tree: &mut T,
     path: &Path,
     finder: &Finder<'_>,
     width: usize,
+    size: u64,
 ) -> Result<bool, TreeError>
     requires width { width ≡ length finder.now }
     requires some { 1 ≤ length finder.now }
-    ensures answer { IfKnown (T.contents tree.old) (λ log.
-        length (node (current log) (found_node (current log) path.now)).bytes ≤ 2 ^ 63
-        → Reads log (ReadAt path.now 0 0) result (λ is.
-        is ≡ holds finder.now (node (current log) (found_node (current log) path.now)).bytes)) }
+    requires more { 0 < size }
+    ensures answer { IfKnown (T.contents tree.old) (λ log. Reads log (ReadAt path.now 0 0) result (λ is.
+        is ≡ holds finder.now (take size (node (current log) (found_node (current log) path.now)).bytes))) }
     ensures same { T.contents tree.new ≡ T.contents tree.old }
     ensures cause { HasCause TreeError.Fault (T.fault_count tree.old) (T.fault_count tree.new) result }
 {
     let mut kept = Vec::new(alloc);
     let mut offset = 0;
-    while offset < FILE_BYTES {
-        let piece = match next_piece(alloc, tree, path, offset, PIECE_BYTES) {
+    while offset < size {
+        let most = piece_size(size - offset);
+        let piece = match next_piece(alloc, tree, path, offset, most) {
             Ok(Some(piece)) => piece,
             Ok(None) => return Ok(false),
             Err(error) => return Err(error),
@@ -78,6 +84,15 @@ fn read_through<T: ReadTree>(
     Ok(false)
 }
 
+/// How many bytes the next piece has at most, where so many are left to be read.
+fn piece_size(left: u64) -> usize
+    requires { 0 < left }
+    ensures some { 1 ≤ result }
+    ensures within { result ≤ left }
+{
+    left.min(PIECE_BYTES) as usize
+}
+
 /// The next piece of a file from an offset on, of at most so many bytes. At the file's end there is none.
 fn next_piece<T: ReadTree>(
     alloc: Global,
@@ -92,6 +107,7 @@ fn next_piece<T: ReadTree>(
         MatchOption piece (length file ≤ offset) (λ bytes.
         bytes.items ≡ take (length bytes.items) (drop offset file)))) }
     ensures some { IfOk result (λ piece. IfSome piece (λ bytes. 1 ≤ length bytes.items)) }
+    ensures few { IfOk result (λ piece. IfSome piece (λ bytes. length bytes.items ≤ most)) }
     ensures same { T.contents tree.new ≡ T.contents tree.old }
     ensures cause { HasCause TreeError.Fault (T.fault_count tree.old) (T.fault_count tree.new) result }
 {

@@ -182,7 +182,7 @@ impl Walk {
             Err(error) => self.refused(Task::Look { path, is_named }, error),
             Ok(meta) => match meta.kind {
                 Kind::Folder => Ok(self.go_into(search, path)),
-                Kind::File => self.read(alloc, tree, search, path, is_named),
+                Kind::File => self.read(alloc, tree, search, path, is_named, meta.size),
                 Kind::Link => Ok(None),
                 Kind::Other => Ok(None),
             },
@@ -201,7 +201,8 @@ impl Walk {
         None
     }
 
-    /// Reads a file, where the pattern finds its name and a content is looked for.
+    /// Reads a file, which was said to have so many bytes, where the pattern finds its name and a content is
+    /// looked for.
     fn read<T: ReadTree>(
         &mut self,
         alloc: Global,
@@ -209,22 +210,27 @@ impl Walk {
         search: &Search,
         path: Path,
         is_named: bool,
+        size: u64,
     ) -> Result<Option<Found>, NoMemory>
         requires { self.old.task ≡ None }
         ensures answer { IfKnown (T.contents tree.old) (λ log.
             refusal_of (current log) (Stat path) ≡ None
             → (node (current log) (found_node (current log) path)).kind ≡ File
-            → length (node (current log) (found_node (current log) path)).bytes ≤ 2 ^ 63
+            → size ≡ length (node (current log) (found_node (current log) path)).bytes
             → Steps (current log) search.now (with_task self.old (Task.Look path is_named)) result self.new) }
         ensures works { Works (Task.Look path is_named) self.old self.new (T.fault_count tree.old)
             (T.fault_count tree.new) result }
         ensures apart { (is_named && not (is_by_name search.now)) ≡ false → tree.new ≡ tree.old }
+        ensures empty { size ≡ 0 → tree.new ≡ tree.old }
         ensures same { T.contents tree.new ≡ T.contents tree.old }
     {
         if !is_named || search.is_by_name() {
             return Ok(None);
         }
-        match file_holds(alloc, tree, &path, search.content.0.as_slice()) {
+        if size == 0 {
+            return Ok(None);
+        }
+        match file_holds(alloc, tree, &path, search.content.0.as_slice(), size) {
             Ok(true) => Ok(Some(Found::Path(path))),
             Ok(false) => Ok(None),
             Err(error) => self.refused(Task::Look { path, is_named }, error),
