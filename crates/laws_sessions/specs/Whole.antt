@@ -43,12 +43,12 @@ pub record IsWholeAt (image : FileSystem) (pair : Pair) (parts : List Route) (st
   pub stands : StandsAllAt image pair.source parts stood pair.source
       ⊎ StandsAllAt image pair.target parts stood pair.source
 
--- From the entry that tells of a move on, and within it, until another one names a path that meets one of the
--- two, of whichever job, each crash image has at the source or at the target what the history says of the source
--- before that entry, with all that lay in it, but for parts, at each moment, inside a call too: whether the
--- move was finished, or aborted before its folders were synced, and whatever is changed elsewhere since, on
--- this mount or on another one. What stays of a source with which the job is done `DoneLaw` says: then the
--- target has it for good.
+-- From the entry that tells of a move on, and within it, until another one names a path that meets one of
+-- the two, of whichever job, each crash image has at the source or at the target what the history says of
+-- the source before that entry, with all that lay in it, but for parts, at each moment, inside a call too:
+-- whether the move was finished, or aborted before its folders were synced, and whatever is changed elsewhere
+-- since, on this mount or on another one. What stays of a source with which the job is done `DoneLaw` says:
+-- then the target has it for good.
 abbrev pub LeavesWhole : CallLog → CallLog → List Entry → Type 0
 LeavesWhole opening now newest =
     (older standing coming : List Entry) (e : Entry) (id : ℕ) (pair : Pair) (calls : ℕ) (image : FileSystem)
