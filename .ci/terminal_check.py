@@ -18,7 +18,7 @@ from move_checks import check_moves
 from panel_box_checks import check_big_home, check_panel_boxes
 from screen_checks import check_find, check_frames, check_panels, check_viewer
 from several_checks import check_several_things
-from start_checks import check_signals, check_stty, check_words
+from start_checks import check_screens, check_signals, check_stop, check_stty, check_words
 from terminal_run import DOWN, ENTER, F10, F8, USAGE, run
 from trouble_checks import (
     check_barred_mode, check_closed_folder, check_dirty_folder, check_drop_box, check_list_of_jobs, check_long_path,
@@ -81,7 +81,9 @@ def main():
         check_set_id_bits(program, base, check)
         check_stty(program, base, check)
         check_words(program, starter, base, check)
+        check_screens(program, base, check)
         check_signals(starter, base, check)
+        check_stop(starter, base, check)
         check_builds(starter, base, check)
 
         for words, want, line in [
