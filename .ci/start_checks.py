@@ -56,9 +56,9 @@ def check_signals(starter, base, check):
 
 
 def is_given_back(told):
-    """Whether the terminal shows its first screen, on which the session wrote nothing, and a cursor."""
+    """Whether the terminal shows a cursor and its first screen, on which no frame was drawn."""
     screen = Screen(*told.size, told.written)
-    return screen.first is None and screen.has_cursor and not any(row.strip() for row in screen.rows())
+    return screen.first is None and screen.has_cursor and not any("1Help" in row for row in screen.rows())
 
 
 def modes_of(process):
