@@ -5,9 +5,8 @@ use crate::fields::put_spelled;
 use crate::screens::grid_of;
 use key_screen::{Grid, read_grid};
 use mem_devices::MemSink;
-use rows_page::{Page, bytes_of, two_fields};
+use rows_page::{Page, two_fields};
 use screen_draw::Screen;
-use tree_trait::Sink;
 
 /// How many frames a terminal shows as they were drawn, when it reads all bytes from the first on.
 pub fn tell_frames(page: &mut Page, fields: &str) {
@@ -87,37 +86,6 @@ fn tell_put_on(page: &mut Page, screen: &mut Screen, fields: &str)
     page.tell(format_args!("{count}|"));
     put_spelled(page, sink.bytes().get(before..).unwrap_or(b""));
     page.put("|");
-}
-
-/// How many bytes a frame puts that was drawn before, once others wrote these bytes on the terminal and all
-/// is forgotten; and whether the terminal shows it then.
-pub fn tell_anew(page: &mut Page, fields: &str) {
-    match Screen::new(page.alloc(), 10, 40) {
-        Ok(mut screen) => tell_anew_on(page, &mut screen, fields),
-        Err(_error) => page.fail(),
-    }
-}
-
-fn tell_anew_on(page: &mut Page, screen: &mut Screen, fields: &str)
-    requires lines { screen.old.grid.lines ≡ 10 }
-    requires columns { screen.old.grid.columns ≡ 40 }
-{
-    let (written, others) = two_fields(fields, '|');
-    let mut sink = MemSink::new(page.alloc(), None);
-    let _count = draw(page, screen, &mut sink, written);
-    let bytes = bytes_of(page, others);
-    let put = sink.put(page.alloc(), &bytes);
-    page.need(put.is_ok());
-    screen.forget();
-    let count = draw(page, screen, &mut sink, written);
-    let Some(frame) = frame_of(page, written) else {
-        return;
-    };
-    let shown = reads_as(page, sink.bytes(), &frame);
-    page.tell(format_args!(
-        "{count} bytes, {}",
-        if shown { "shown" } else { "not shown" }
-    ));
 }
 
 /// Draws a frame, and gives the number of bytes that it puts.

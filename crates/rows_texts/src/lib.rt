@@ -50,7 +50,6 @@ fn tell_screens(page: &mut Page, call: &str, fields: &str) {
         "frames" => frames::tell_frames(page, fields),
         "first" => frames::tell_first(page, fields),
         "put" => frames::tell_put(page, fields),
-        "anew" => frames::tell_anew(page, fields),
         _ => page.fail(),
     }
 }
