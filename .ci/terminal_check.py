@@ -13,12 +13,13 @@ from job_checks import (
     check_copied_folders, check_copies, check_folders, check_kept_folder, check_links, check_modes, check_questions,
     check_new_folders, check_set_id_bits,
 )
+from key_checks import check_keys_of_terminals
 from merge_checks import check_merged_folders
 from move_checks import check_moves
 from panel_box_checks import check_big_home, check_panel_boxes
 from screen_checks import check_find, check_frames, check_panels, check_viewer
 from several_checks import check_several_things
-from start_checks import check_signals, check_stty, check_words
+from start_checks import check_screens, check_signals, check_stop, check_stty, check_words
 from sync_checks import check_syncs
 from terminal_run import DOWN, ENTER, F10, F8, USAGE, run
 from trouble_checks import (
@@ -63,6 +64,7 @@ def main():
         check_moves(program, base, check)
         check_frames(program, base, check)
         check_viewer(program, base, check)
+        check_keys_of_terminals(program, base, check)
         check_find(program, base, check)
         check_panels(program, base, check)
         check_panel_boxes(program, base, check)
@@ -83,7 +85,9 @@ def main():
         check_syncs(program, base, check)
         check_stty(program, base, check)
         check_words(program, starter, base, check)
+        check_screens(program, base, check)
         check_signals(starter, base, check)
+        check_stop(starter, base, check)
         check_builds(starter, base, check)
 
         for words, want, line in [

@@ -65,6 +65,7 @@ def start(program, words, ours, theirs, largest=None, user=None, folders=None, i
             os.dup2(theirs, stream)
         fcntl.ioctl(0, termios.TIOCSCTTY, 0)
         os.close(theirs)
+        signal.signal(signal.SIGPIPE, signal.SIG_DFL)  # Python ignores it, and a shell can't trap what was ignored before it
         if largest is not None:
             signal.signal(signal.SIGXFSZ, signal.SIG_IGN)
             resource.setrlimit(resource.RLIMIT_FSIZE, (largest, largest))

@@ -1,13 +1,14 @@
 """A terminal as the program's users have it: bytes go in, and rows of cells can be read.
 
-It knows what the program may write and nothing else: the placement, the clearing of the screen, three looks, and text.
+It knows what the program may write and nothing else: the placement, the clearing of the screen, three looks, and text; and of what stands
+around a session the terminal's other screen, and whether there is a cursor.
 """
 import re
 import unicodedata
 
 PLAIN, BOLD, REVERSE = "plain", "bold", "reverse"
 LOOKS = {b"0": PLAIN, b"": PLAIN, b"1": BOLD, b"7": REVERSE}
-SEQUENCE = re.compile(rb"\x1b\[([0-9;]*)([A-Za-z])")
+SEQUENCE = re.compile(rb"\x1b\[(\??[0-9;]*)([A-Za-z])")
 
 
 def columns_of(character):
@@ -24,6 +25,7 @@ class Screen:
         self.lines, self.columns = lines, columns
         self.look, self.at = PLAIN, (0, 0)
         self.unread = []
+        self.first, self.has_cursor = None, True
         self.clear()
         self.read(written)
 
@@ -52,8 +54,20 @@ class Screen:
             self.clear()
         elif final == b"m" and numbers in LOOKS:
             self.look = LOOKS[numbers]
+        elif numbers == b"?25" and final in b"hl":
+            self.has_cursor = final == b"h"
+        elif numbers == b"?1049" and final in b"hl":
+            self.change(final == b"h")
         else:
             self.unread.append(whole)
+
+    def change(self, to_other):
+        """Goes to the other screen, which is blank then, or back to the first one."""
+        if to_other and self.first is None:
+            self.first = self.cells, self.at
+            self.clear()
+        elif not to_other and self.first is not None:
+            (self.cells, self.at), self.first = self.first, None
 
     def show(self, text):
         for character in text.decode("utf-8", "replace"):

@@ -1,5 +1,5 @@
--- How a terminal spells a key. The bytes of the cursor and function keys are those that xterm and the Linux
--- console send; how escape, digits and letters make a key is mc(1)'s, and what isn't read there is our own.
+-- How a terminal spells a key. The bytes of the cursor and function keys are those that xterm, putty and rxvt
+-- send; how escape, digits and letters make a key is mc(1)'s, and what isn't read there is our own.
 -- Characters are spelled in UTF-8, whose well-formed bytes are those of the Unicode Standard's table 3-7.
 use Rattle.std.specs.Prelude.{◌<◌, ◌≤◌, ◌⊎◌, ℕ, ◌+◌, ◌-◌, ◌*◌, Bool, true, false, ◌&&◌, ◌||◌}
 use Rattle.std.specs.Prelude.{◌==◌, nat_le, nat_lt, if◌then◌else◌, List, [], ◌∷◌, ◌++◌, length}
@@ -108,21 +108,21 @@ cursor_base letter =
 abbrev pub letter_base : ℕ → Base
 letter_base letter = if is_within 80 83 letter then F (letter - 79) else cursor_base letter
 
--- ESC `[`, one digit, `~`
+-- ESC `[`, one digit, `~`; Home and End are 1 and 4, or 7 and 8, as putty and rxvt have them
 abbrev pub one_digit_base : ℕ → Base
 one_digit_base digit =
-    if digit == 49 then Home
+    if digit == 49 || digit == 55 then Home
     else if digit == 50 then Insert
     else if digit == 51 then Delete
-    else if digit == 52 then End
+    else if digit == 52 || digit == 56 then End
     else if digit == 53 then PgUp
     else if digit == 54 then PgDn
     else Unknown
 
--- ESC `[`, two digits, `~`: 15, 17, 18, 19, 20 and 21 are F5 to F10
+-- ESC `[`, two digits, `~`: 11 to 15, 17 to 19, 20 and 21 are F1 to F10
 abbrev pub two_digits_base : ℕ → ℕ → Base
 two_digits_base tens ones =
-    if tens == 49 && ones == 53 then F 5
+    if tens == 49 && is_within 49 53 ones then F (ones - 48)
     else if tens == 49 && is_within 55 57 ones then F (ones - 49)
     else if tens == 50 && is_within 48 49 ones then F (ones - 39)
     else Unknown

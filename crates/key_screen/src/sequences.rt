@@ -79,10 +79,10 @@ fn one_digit_key(digit: u8) -> Base
     ensures { result ≡ one_digit_base digit }
 {
     match digit {
-        b'1' => Base::Home,
+        b'1' | b'7' => Base::Home,
         b'2' => Base::Insert,
         b'3' => Base::Delete,
-        b'4' => Base::End,
+        b'4' | b'8' => Base::End,
         b'5' => Base::PgUp,
         b'6' => Base::PgDn,
         _ => Base::Unknown,
@@ -94,7 +94,7 @@ fn two_digits_key(tens: u8, ones: u8) -> Base
     ensures { result ≡ two_digits_base tens ones }
 {
     match (tens, ones) {
-        (b'1', b'5') => Base::F(5),
+        (b'1', b'1'..=b'5') => Base::F(ones - b'0'),
         (b'1', b'7'..=b'9') => Base::F(ones - b'7' + 6),
         (b'2', b'0'..=b'1') => Base::F(ones - b'0' + 9),
         _ => Base::Unknown,

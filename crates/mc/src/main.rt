@@ -1,11 +1,13 @@
 //! The program: the real devices, the terminal made raw and put back, and one run.
 #![tactic(auto)]
 
+mod session_screen;
 mod surroundings;
 mod terminal;
 
-use crate::surroundings::{NoWords, fill_size, surroundings, words_of};
-use crate::terminal::{TerminalChange, begin_line, clear_screen, make_raw, put_back, put_usage};
+use crate::session_screen::SessionScreen;
+use crate::surroundings::{NoWords, surroundings, words_of};
+use crate::terminal::{TerminalChange, begin_line, leave_screen, make_raw, put_back, put_usage};
 use host_devices::{HostClock, ShSpawner, StdinSource, StdoutSink};
 use host_tree::HostTree;
 use mc_main::{Beginning, Env, Gate, beginning_of, mc_run};
@@ -35,15 +37,22 @@ fn main(rt: HostRuntime) -> io::Result<ExitCode> {
         return Ok(ExitCode::from(5));
     };
     let terminal = enter(&rt, words.as_slice(), &mut env);
-    let status = run(rt, words.as_slice(), &env);
-    leave(&rt, &terminal, status);
-    Ok(ExitCode::from(status))
+    let end = run(rt, words.as_slice(), &env);
+    leave(&rt, &terminal, &end);
+    Ok(ExitCode::from(end.status))
 }
 
-/// One run over the real devices. Answers its status.
-fn run(rt: HostRuntime, words: &[Text], env: &Env) -> u8 {
+/// How a run ended: its status, and whether it went to the terminal's other screen.
+#[derive(Drop)]
+struct RunEnd {
+    status: u8,
+    has_entered: bool,
+}
+
+/// One run over the real devices.
+fn run(rt: HostRuntime, words: &[Text], env: &Env) -> RunEnd {
     let tree = HostTree::new(rt);
-    let screen = StdoutSink::new(rt);
+    let screen = SessionScreen::new(StdoutSink::new(rt));
     let mut keys = StdinSource::new(rt);
     let spawner = ShSpawner::new(rt);
     let clock = HostClock::new(rt);
@@ -51,7 +60,7 @@ fn run(rt: HostRuntime, words: &[Text], env: &Env) -> u8 {
         Brand,
         HostTree<HostRuntime>,
         StdinSource<HostRuntime>,
-        StdoutSink<HostRuntime>,
+        SessionScreen<HostRuntime>,
         ShSpawner<HostRuntime>,
         HostClock<HostRuntime>,
         Open,
@@ -66,7 +75,10 @@ fn run(rt: HostRuntime, words: &[Text], env: &Env) -> u8 {
         &clock,
         &Open,
     );
-    outcome.status
+    RunEnd {
+        status: outcome.status,
+        has_entered: outcome.screen.has_entered(),
+    }
 }
 
 /// Makes the terminal ready for a session, and asks it for its size. Where a text is
@@ -75,8 +87,7 @@ fn enter(rt: &HostRuntime, words: &[Text], env: &mut Env) -> TerminalChange {
     if prints_alone(rt.alloc(), words, env) {
         return TerminalChange::Untouched;
     }
-    let _filled = fill_size(rt, env);
-    make_raw(rt)
+    make_raw(rt, env)
 }
 
 /// Whether a run on these words prints a text, and does nothing else.
@@ -88,14 +99,14 @@ fn prints_alone(alloc: Global, words: &[Text], env: &Env) -> bool {
 }
 
 /// Leaves the terminal as it was. The line of a path that was refused stays.
-fn leave(rt: &HostRuntime, terminal: &TerminalChange, status: u8) {
+fn leave(rt: &HostRuntime, terminal: &TerminalChange, end: &RunEnd) {
     if let TerminalChange::Untouched = terminal {
         return;
     }
-    if status == 2 {
+    if end.has_entered {
+        leave_screen(rt);
+    } else if end.status == 2 {
         begin_line(rt);
-    } else {
-        clear_screen(rt);
     }
     put_back(rt, terminal);
 }

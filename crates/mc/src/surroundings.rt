@@ -1,10 +1,9 @@
-//! What the program finds around it: its words, the folder that it was started in, the
-//! environment, the terminal's size.
+//! What the program finds around it: its words, the folder that it was started in, the environment.
 use mc_main::Env;
 use mc_text::{NoMemory, Text};
+use std::alloc::Global;
 use std::env::VarError;
 use std::io;
-use std::process::{Command, Stdio};
 
 /// Why there are no words.
 #[derive(Clone, Copy, PartialEq, Eq)]
@@ -69,31 +68,17 @@ fn variable(rt: &HostRuntime, name: &str) -> Result<Option<Text>, NoMemory> {
     }
 }
 
-/// Where LINES or COLUMNS is missing, the terminal is asked. Where it says nothing it stays missing.
-pub fn fill_size(rt: &HostRuntime, env: &mut Env) -> io::Result<()> {
-    if env.lines.is_some() && env.columns.is_some() {
+/// Where LINES or COLUMNS is missing, what the terminal says of its size, as `stty size` prints it, fills it.
+/// Where that says nothing it stays missing.
+pub fn fill_size(alloc: Global, env: &mut Env, said: &str) -> Result<(), NoMemory> {
+    let Some((lines, columns)) = said.trim().split_once(' ') else {
         return Ok(());
+    };
+    if env.lines.is_none() {
+        env.lines = Some(Text::from_str(alloc, lines)?);
     }
-    let said = stty_size(rt)?;
-    if let Some((lines, columns)) = said.as_str().trim().split_once(' ') {
-        if env.lines.is_none() {
-            env.lines = Some(Text(String::from_str(rt.alloc(), lines)?));
-        }
-        if env.columns.is_none() {
-            env.columns = Some(Text(String::from_str(rt.alloc(), columns)?));
-        }
+    if env.columns.is_none() {
+        env.columns = Some(Text::from_str(alloc, columns)?);
     }
     Ok(())
-}
-
-/// Lines and columns, as `stty` says them of the terminal that is the input.
-fn stty_size(rt: &HostRuntime) -> io::Result<String> {
-    let said = Command::new(rt.alloc(), "sh")?
-        .arg("-c")?
-        .arg("stty size")?
-        .stdin(Stdio::inherit())
-        .stderr(Stdio::null())
-        .output(rt)?;
-    let text = std::str::from_utf8(said.stdout.as_slice()).unwrap_or("");
-    Ok(String::from_str(rt.alloc(), text)?)
 }

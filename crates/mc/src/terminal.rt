@@ -1,5 +1,6 @@
 //! The terminal that the program runs in, asked through `stty`, whose failures are ignored.
-use mc_main::Printed;
+use crate::surroundings::fill_size;
+use mc_main::{Env, Printed};
 use std::io;
 use std::process::{Command, Stdio};
 
@@ -20,14 +21,41 @@ pub fn put_usage(rt: &HostRuntime) -> io::Result<()> {
     print!(rt; "{usage}")
 }
 
-/// Lets each byte of the keyboard come at once, and not be shown.
-pub fn make_raw(rt: &HostRuntime) -> TerminalChange {
-    let before = modes(rt);
-    let _done = stty(rt, &["raw", "-echo"]);
-    match before {
+/// Lets each byte of the keyboard come at once, and not be shown. Before that the terminal says what it is
+/// like, and how large it is where the environment doesn't say that; one shell asks it all.
+pub fn make_raw(rt: &HostRuntime, env: &mut Env) -> TerminalChange {
+    let size_wanted = env.lines.is_none() || env.columns.is_none();
+    let Ok(said) = ask_and_make_raw(rt, size_wanted) else {
+        return TerminalChange::Raw;
+    };
+    let (size, modes) = said.as_str().split_once('\n').unwrap_or(("", ""));
+    let _filled = fill_size(rt.alloc(), env, size);
+    let modes = modes.trim();
+    if modes.is_empty() {
+        return TerminalChange::Raw;
+    }
+    match String::from_str(rt.alloc(), modes) {
         Ok(modes) => TerminalChange::RawAfter(modes),
         Err(_) => TerminalChange::Raw,
     }
+}
+
+/// Makes the terminal raw. Answers what it said before, of its size in a line, which is empty where it isn't
+/// asked or says nothing, and then of its modes, in one word that `stty` reads again.
+fn ask_and_make_raw(rt: &HostRuntime, size_wanted: bool) -> io::Result<String> {
+    let script = if size_wanted {
+        "stty size || echo; stty -g; stty raw -echo"
+    } else {
+        "echo; stty -g; stty raw -echo"
+    };
+    let said = Command::new(rt.alloc(), "sh")?
+        .arg("-c")?
+        .arg(script)?
+        .stdin(Stdio::inherit())
+        .stderr(Stdio::null())
+        .output(rt)?;
+    let text = std::str::from_utf8(said.stdout.as_slice()).unwrap_or("");
+    Ok(String::from_str(rt.alloc(), text)?)
 }
 
 /// Makes the terminal what it was before; where that isn't known, what a shell wants.
@@ -39,9 +67,10 @@ pub fn put_back(rt: &HostRuntime, terminal: &TerminalChange) {
     };
 }
 
-/// Takes the last frame off the screen.
-pub fn clear_screen(rt: &HostRuntime) {
-    let _done = print!(rt; "\x1b[0m\x1b[2J\x1b[1;1H");
+/// Takes the last frame off the screen, shows the cursor, and goes back to the terminal's first screen. A
+/// terminal that has no other one is left blank.
+pub fn leave_screen(rt: &HostRuntime) {
+    let _done = print!(rt; "\x1b[0m\x1b[2J\x1b[1;1H\x1b[?25h\x1b[?1049l");
 }
 
 /// After a printed line: a raw terminal doesn't go back to the first column by itself. What isn't
@@ -58,20 +87,6 @@ fn return_on_terminal(rt: &HostRuntime) -> io::Result<()> {
         .stderr(Stdio::null())
         .status(rt)?;
     Ok(())
-}
-
-/// What the terminal is like, in one word that `stty` reads again.
-fn modes(rt: &HostRuntime) -> io::Result<String> {
-    let said = Command::new(rt.alloc(), "stty")?
-        .arg("-g")?
-        .stdin(Stdio::inherit())
-        .stderr(Stdio::null())
-        .output(rt)?;
-    let text = std::str::from_utf8(said.stdout.as_slice()).unwrap_or("");
-    match text.trim() {
-        "" => Err(io::Error::from(io::ErrorKind::NotFound)),
-        modes => Ok(String::from_str(rt.alloc(), modes)?),
-    }
 }
 
 fn stty(rt: &HostRuntime, words: &[&str]) -> io::Result<()> {

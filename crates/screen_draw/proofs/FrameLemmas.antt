@@ -1,19 +1,19 @@
 -- the bytes of a frame draw it
-use Rattle.std.proofs.Common.{◌≡◌, ℕ, ◌+◌, ◌-◌, ◌*◌, ◌<◌, ◌≤◌, Bool, true, false, ◌==◌, if◌then◌else◌, List, [], ◌∷◌, ◌++◌, length, None, Result, Ok, Err, refl, sym, ◌∙◌, ap, subst, arith, append-nil}
+use Rattle.std.proofs.Common.{◌≡◌, ℕ, ◌+◌, ◌-◌, ◌*◌, ◌<◌, ◌≤◌, Bool, true, false, ◌==◌, if◌then◌else◌, List, [], ◌∷◌, ◌++◌, length, replicate, None, Result, Ok, Err, refl, sym, ◌∙◌, ap, subst, arith, append-nil}
 use Rattle.std.proofs.lemmas.Bool.Decides.{nat_tests}
 use Rattle.key_screen.specs.declared.cells.Attr.{Attr}
 use Rattle.key_screen.specs.declared.cells.Cell.{Cell}
-use Rattle.key_screen.specs.Cells.{right_half_at}
+use Rattle.key_screen.specs.Cells.{blank_cell, right_half_at}
 use Rattle.key_screen.specs.Grids.{CellGrid}
 use Rattle.key_screen.specs.Layout.{IsLaidOut}
 use Rattle.key_screen.specs.Terminal.{TerminalState, text_read, all_read, segments, in_front, sequences_read, sequence_read, shown_grid, blank_terminal}
 use Rattle.screen_draw.specs.declared.changes.Change.{Change}
 use Rattle.screen_draw.specs.declared.strokes.Pen.TheVariants.{Away}
 use Rattle.screen_draw.specs.Changes.{changes_from}
-use Rattle.screen_draw.specs.DrawnBytes.{drawing, drawn_bytes}
+use Rattle.screen_draw.specs.DrawnBytes.{clear, drawing, drawn_bytes}
 use Rattle.screen_draw.specs.Drawings.{HasSizeOf, Shows}
 use Rattle.screen_draw.proofs.EscapeLemmas.{segments-some, segments-behind}
-use Rattle.screen_draw.proofs.ReadingLemmas.{Leads, text_read-none, state}
+use Rattle.screen_draw.proofs.ReadingLemmas.{Leads, cleared_terminal, leads-clear, text_read-none, state}
 use Rattle.screen_draw.proofs.StrokeLemmas.{Begins, drawing-begins}
 use Rattle.screen_draw.proofs.CellLemmas.{laid-front, changes-first}
 use Rattle.screen_draw.proofs.DrawnLemmas.{NoneBegins, draws-on}
@@ -56,6 +56,20 @@ read-behind t between new given (byte ∷ rest) is begins leads = by_test (byte 
   by_test : (test : Bool) → (byte == 27) ≡ test → Begins Away (if test then [] ∷ segments rest else in_front byte (segments rest)) → all_read t (segments (given ++ byte ∷ rest)) ≡ Ok new
   by_test true same begins' = escape (grind (arith, nat_tests))
   by_test false other begins' = no_text (segments rest) begins'
+
+-- a screen whose cells are all blank, of the size of another
+abbrev pub blank_as : CellGrid → CellGrid
+blank_as grid = record grid { cells = replicate (length grid.cells) blank_cell }
+
+-- a terminal that is cleared shows blank cells, whatever it showed before
+pub clear-shown : (given : List ℕ) (was : CellGrid) → Shows given was → Shows (given ++ clear) (blank_as was)
+clear-shown given was shows =
+    let terminal = shows-terminal given was shows in
+    let blank = blank_terminal was.lines was.columns in
+    let old = state was.lines was.columns was.cells terminal.at terminal.room terminal.mode in
+    let new = cleared_terminal old in
+    let all : all_read blank (segments (given ++ clear)) ≡ Ok new = read-behind blank old new given clear terminal.is refl (leads-clear old) in
+    ap shown_grid {x = all_read blank (segments (given ++ clear))} {y = Ok new} all
 
 -- two screens of one size
 resized : (screen frame : CellGrid) → HasSizeOf screen frame → (cells : List Cell) (at room : ℕ) (mode : Attr)

@@ -1,5 +1,5 @@
 -- what a terminal makes of the bytes of a drawing
-use Rattle.std.proofs.Common.{◌≡◌, ℕ, ◌+◌, ◌-◌, ◌*◌, ◌<◌, ◌≤◌, suc, Bool, true, false, ◌&&◌, ◌||◌, not, ◌==◌, nat_le, if◌then◌else◌, List, [], ◌∷◌, ◌++◌, length, take, Some, None, Result, Ok, Err, refl, sym, ◌∙◌, ap, subst, arith, append-nil, length-append, inl, inr, ◌⊎◌}
+use Rattle.std.proofs.Common.{◌≡◌, ℕ, ◌+◌, ◌-◌, ◌*◌, ◌<◌, ◌≤◌, suc, Bool, true, false, ◌&&◌, ◌||◌, not, ◌==◌, nat_le, if◌then◌else◌, List, [], ◌∷◌, ◌++◌, length, take, replicate, Some, None, Result, Ok, Err, refl, sym, ◌∙◌, ap, subst, arith, append-nil, length-append, inl, inr, ◌⊎◌}
 use Rattle.std.specs.List.{concat}
 use Rattle.std.specs.Str.{is_utf8}
 use Rattle.std.specs.Str.Lossy.{utf8_valid_len}
@@ -15,12 +15,13 @@ use Rattle.key_screen.specs.declared.cells.Glyph.{Glyph}
 use Rattle.key_screen.specs.declared.cells.Glyph.TheVariants.{Blank, Cluster, RightHalf}
 use Rattle.key_screen.specs.declared.control.Control.TheVariants.{Place}
 use Rattle.key_screen.specs.declared.control.Sequence.{Sequence}
+use Rattle.key_screen.specs.Cells.{blank_cell}
 use Rattle.key_screen.specs.DrawnText.{cluster_columns, has_control, stands_alone, is_drawable, is_blank, drawn_glyph, glyph_columns, put_glyph}
 use Rattle.key_screen.specs.KeySpelling.{is_within}
 use Rattle.key_screen.specs.Layout.{IsDrawn}
 use Rattle.key_screen.specs.Terminal.{TerminalState, with_cluster, clusters_read, text_read, up_to_fault, behind_control, behind_sequence, sequence_read, sequences_read, segments}
 use Rattle.key_screen.proofs.DrawnGlyphs.{question_mark-drawable, blank-drawable, blank_columns}
-use Rattle.screen_draw.specs.DrawnBytes.{glyph_text, is_printable, look, turn, place}
+use Rattle.screen_draw.specs.DrawnBytes.{clear, glyph_text, is_printable, look, turn, place}
 use Rattle.screen_draw.proofs.EscapeLemmas.{HasNoEscape, segments-plain, first_segment, text-no_escape}
 use Rattle.screen_draw.proofs.NumberLemmas.{placement, placement-no_escape, control_of-placement, drop_placement}
 use Rattle.screen_draw.proofs.PrintableLemmas.{ArePrintable, first-typed}
@@ -84,6 +85,15 @@ leads-turn t new Plain Reverse rest leads =
     leads-escape (record t { mode = Plain }) (record t { mode = Reverse }) new (91 ∷ 55 ∷ 109 ∷ []) rest (refl, (refl, (refl, tt))) (λ position segment. refl) leads
 leads-turn t new Bold attr rest leads = leads-look (record t { mode = Bold }) new attr rest leads
 leads-turn t new Reverse attr rest leads = leads-look (record t { mode = Reverse }) new attr rest leads
+
+-- a terminal all of whose cells were made blank
+abbrev pub cleared_terminal : TerminalState → TerminalState
+cleared_terminal t = record t { cells = replicate (length t.cells) blank_cell }
+
+pub leads-clear : (t : TerminalState) → Leads t clear (cleared_terminal t)
+leads-clear t =
+    leads-escape t (cleared_terminal t) (cleared_terminal t) (91 ∷ 50 ∷ 74 ∷ []) [] (refl, (refl, (refl, tt))) (λ position segment. refl)
+    (leads-nothing (cleared_terminal t))
 
 -- a terminal whose next cluster goes there
 abbrev pub placed_at : TerminalState → ℕ → ℕ → TerminalState

@@ -41,6 +41,15 @@ turn Plain Bold = 27 ∷ 91 ∷ 49 ∷ 109 ∷ []
 turn Plain Reverse = 27 ∷ 91 ∷ 55 ∷ 109 ∷ []
 turn before attr = look attr
 
+-- `[2J` makes all cells blank and plain (ED)
+abbrev pub clear : List ℕ
+clear = 27 ∷ 91 ∷ 50 ∷ 74 ∷ []
+
+-- what stands before all else, where it isn't known what the terminal shows
+abbrev pub clearing : Bool → List ℕ
+clearing true = []
+clearing false = clear
+
 -- the last decimal digit of a number
 abbrev pub digit : ℕ → ℕ
 digit n = 48 + n % 10

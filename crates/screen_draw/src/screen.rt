@@ -4,7 +4,7 @@ ghost use Rattle.tree_trait.specs.Answers.{HasCause, IfKnown};
 ghost use Rattle.tree_trait.specs.Devices.{HasPut};
 ghost use Rattle.key_screen.specs.Cells.{blank_cell};
 ghost use Rattle.key_screen.specs.Grids.{blank_grid};
-ghost use Rattle.screen_draw.specs.Drawings.{HasSizeOf, HasDrawn};
+ghost use Rattle.screen_draw.specs.Drawings.{HasSizeOf, HasDrawn, disturbed};
 
 use crate::changes::{changes_of, take_over};
 use crate::strokes::bytes_of;
@@ -14,7 +14,8 @@ use std::alloc::{AllocError, Global};
 use std::marker::Model;
 use tree_trait::{Sink, SinkError};
 
-/// A screen. Contracts see it as the frame that was drawn last, and whether one was.
+/// A screen. Contracts see it as the frame that was drawn last, and whether one was since nothing was known
+/// of the terminal.
 #[derive(Debug, Drop)]
 pub struct Screen {
     lines: u16,
@@ -56,10 +57,10 @@ impl Screen {
         })
     }
 
-    /// Draws a frame: all of the first one, and then what differs from the one before. Tells how many
-    /// bytes were put. They are put by one call, after the memory was found that the drawing takes;
-    /// where nothing differs there is no call. It takes time proportional to the cells, and memory
-    /// proportional to those that differ.
+    /// Draws a frame: all of the first one, behind a clearing of the terminal, and then what differs from the
+    /// one before. Tells how many bytes were put. They are put by one call, after the memory was found that
+    /// the drawing takes; where nothing differs there is no call. It takes time proportional to the cells,
+    /// and memory proportional to those that differ.
     pub fn draw<S: Sink>(
         &mut self,
         alloc: Global,
@@ -84,13 +85,21 @@ impl Screen {
         let Ok(changes) = changes_of(alloc, self.has_drawn, &self.cells, cells) else {
             return Err(SinkError::Memory);
         };
-        let Ok(bytes) = bytes_of(alloc, columns, cells, &changes) else {
+        let Ok(bytes) = bytes_of(alloc, self.has_drawn, columns, cells, &changes) else {
             return Err(SinkError::Memory);
         };
         put(alloc, &bytes, sink)?;
         take_over(&mut self.cells, changes);
         self.has_drawn = true;
         Ok(bytes.len())
+    }
+
+    /// Forgets what the terminal shows, since others may have written on it: the next drawing is as the
+    /// first.
+    pub fn forget(&mut self)
+        ensures { self.new ≡ disturbed self.old }
+    {
+        self.has_drawn = false;
     }
 }
 

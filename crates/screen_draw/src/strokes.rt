@@ -8,7 +8,7 @@ ghost use Rattle.screen_draw.specs.DrawnBytes.{is_typed as is_typed_of, are_type
 ghost use Rattle.screen_draw.specs.DrawnBytes.{cells_text, cells_between, is_near as is_near_of};
 ghost use Rattle.screen_draw.specs.DrawnBytes.{goes_on as goes_on_of, place_as as place_as_of};
 ghost use Rattle.screen_draw.specs.DrawnBytes.{approach_to as approach_of, lead, stroke};
-ghost use Rattle.screen_draw.specs.DrawnBytes.{pen_after as pen_after_of, drawing, drawn_bytes};
+ghost use Rattle.screen_draw.specs.DrawnBytes.{pen_after as pen_after_of, drawing, drawn_bytes, clearing};
 
 use crate::changes::{Change, looks_same};
 use key_screen::{Attr, Cell, Glyph};
@@ -56,17 +56,19 @@ pub enum Approach {
 const LONGEST_GAP: usize = 5;
 
 /// The bytes that draw changes in a frame of these cells, of so many columns, in time proportional to the
-/// changes and their texts.
+/// changes and their texts. Where no frame was drawn before, all cells are cleared first.
 pub fn bytes_of(
     alloc: Global,
+    has_drawn: bool,
     columns: usize,
     cells: &[Cell],
     changes: &[Change],
 ) -> Result<Vec<u8>, AllocError>
     requires { All (IsWithin (length cells.now)) changes.now }
-    ensures { IfOk result (λ bytes. bytes.items ≡ drawn_bytes columns cells.now changes.now) }
+    ensures { IfOk result
+        (λ bytes. bytes.items ≡ clearing has_drawn ++ drawn_bytes columns cells.now changes.now) }
 {
-    let mut bytes = Vec::new(alloc);
+    let mut bytes = first_bytes(alloc, has_drawn)?;
     if columns == 0 {
         return Ok(bytes);
     }
@@ -75,6 +77,18 @@ pub fn bytes_of(
         push_stroke(&mut bytes, columns, cells, pen, change)?;
         pen = pen_after(pen, change);
     }
+    Ok(bytes)
+}
+
+/// What stands before all else: the clearing of all cells, where no frame was drawn before.
+fn first_bytes(alloc: Global, has_drawn: bool) -> Result<Vec<u8>, AllocError>
+    ensures { IfOk result (λ bytes. bytes.items ≡ clearing has_drawn) }
+{
+    let mut bytes = Vec::new(alloc);
+    if has_drawn {
+        return Ok(bytes);
+    }
+    bytes.extend_from_slice(b"\x1b[2J")?;
     Ok(bytes)
 }
 

@@ -3,7 +3,7 @@ use Rattle.std.proofs.Common.{◌≡◌, ◌++◌, take, drop, Some, [], All, le
 use Rattle.std.proofs.lemmas.Result.{err_from_is_err_and}
 use Rattle.key_screen.proofs.RowLemmas.{given_back}
 use Rattle.screen_draw.specs.Changes.{changes_from, IsWithin, with_changes}
-use Rattle.screen_draw.specs.DrawnBytes.{drawn_bytes}
+use Rattle.screen_draw.specs.DrawnBytes.{clearing, drawn_bytes}
 use Rattle.screen_draw.proofs.CellLemmas.{changes-within, changes-give}
 use Rattle.screen_draw.proofs.DisplayLemmas.{put_bytes, put-is, same_count, is_drawing, drawn_screen}
 use Rattle.screen_draw.proofs.screen.Screen.draw.Goals as goal
@@ -39,7 +39,7 @@ returns-in_err-put-clause-shown g c = λ given is.
     let frame = c.args.frame.now in
     let width : c.from-columns.result ≡ frame.columns = c.from-columns.ensures ∙ c.columns.ensures in
     let bytes : c.deref-3.result.now ≡ put_bytes c.self.inside.has_drawn c.self.inside.cells.items frame =
-    c.deref-3.ensures.value ∙ c.in-Ok-bytes_of.ensures ∙ ap (drawn_bytes c.from-columns.result c.cells-cells.result.now) (c.deref-2.ensures.value ∙ c.in-Ok.ensures)
+    c.deref-3.ensures.value ∙ c.in-Ok-bytes_of.ensures ∙ ap (λ changes. clearing c.self.inside.has_drawn ++ drawn_bytes c.from-columns.result c.cells-cells.result.now changes) (c.deref-2.ensures.value ∙ c.in-Ok.ensures)
     ∙ put-is c.from-columns.result c.deref.result.now c.cells-cells.result.now c.self.inside.has_drawn c.self.inside.cells.items frame width c.deref.ensures.value c.cells-cells.ensures.value in
     rw p.1 (
       put_bytes c.self.inside.has_drawn c.self.inside.cells.items frame,
@@ -77,7 +77,7 @@ returns-clause-shown g c = λ given is.
     let put = c.in_ok-put.ensures.answer given is in
     let width : c.from-columns.result ≡ frame.columns = c.from-columns.ensures ∙ c.columns.ensures in
     let bytes : c.in-Ok-bytes_of.bytes.items ≡ put_bytes c.self.inside.has_drawn c.self.inside.cells.items frame =
-    c.in-Ok-bytes_of.ensures ∙ ap (drawn_bytes c.from-columns.result c.cells-cells.result.now) (c.deref-2.ensures.value ∙ c.in-Ok.ensures)
+    c.in-Ok-bytes_of.ensures ∙ ap (λ changes. clearing c.self.inside.has_drawn ++ drawn_bytes c.from-columns.result c.cells-cells.result.now changes) (c.deref-2.ensures.value ∙ c.in-Ok.ensures)
     ∙ put-is c.from-columns.result c.deref.result.now c.cells-cells.result.now c.self.inside.has_drawn c.self.inside.cells.items frame width c.deref.ensures.value c.cells-cells.ensures.value in
     let size : length (put_bytes c.self.inside.has_drawn c.self.inside.cells.items frame) ≡ length c.deref-3.result.now = ap length (sym (c.deref-3.ensures.value ∙ bytes)) in
     let lent = c.deref-3.ensures.len in
