@@ -4,3 +4,4 @@ pub mod Listing
 pub mod Modes
 pub mod Ranks
 pub mod Seen
+pub mod Told

@@ -1,6 +1,8 @@
 //! The tree of the machine's files.
-ghost use Rattle.std.specs.Prelude.{◌≡◌, None};
+ghost use Rattle.std.specs.Prelude.{◌≡◌, [], None};
+ghost use Rattle.tree_trait.specs.Answered.{with_answer};
 ghost use Rattle.tree_trait.specs.Answers.{HasCause, count_after};
+ghost use Rattle.tree_trait.specs.Changing.{call_of};
 
 use crate::kinds::Wanted;
 use crate::machine::Machine;
@@ -11,31 +13,34 @@ use std::marker::Model;
 use std::os::unix::fs::FileExt;
 use std::process::Processes;
 use std::rt::Files;
-use tree_trait::{Children, Meta, ReadTree, Tree, TreeError};
+use tree_trait::{AnsweredCalls, ChangingCall, Children, Meta, ReadTree, Tree, TreeError};
 
-/// The files of the machine. Contracts see how often a call has failed. It tells nothing of what it holds.
+/// The files of the machine. Contracts see how often a call has failed, and which changing calls were made
+/// and what each answered. It tells nothing of what it holds.
 #[derive(Drop)]
 pub struct HostTree<R: Files> {
     machine: Machine<R>,
     faults: Faults,
+    answered: AnsweredCalls,
 }
 
 impl<R: Files> Model for HostTree<R> {
-    ghost use Rattle.std.specs.Prelude.{ℕ};
+    ghost use Rattle.host_tree.specs.Told.{Told};
 
-    ghost Value = { ℕ };
+    ghost Value = { Told };
 
-    ghost view = { λ t. t.faults };
+    ghost view = { λ t. record { faults = t.faults; answered = t.answered.calls } };
 }
 
 impl<R: Files + AllocGlobal> HostTree<R> {
     /// The files that this runtime reaches. It takes no memory.
     pub fn new(rt: R) -> HostTree<R>
-        ensures { result ≡ 0 }
+        ensures { result ≡ record { faults = 0; answered = [] } }
     {
         HostTree {
             machine: Machine::new(rt),
             faults: Faults::new(),
+            answered: AnsweredCalls::new(),
         }
     }
 }
@@ -44,13 +49,29 @@ impl<R: Files> HostTree<R> {
     /// The answer as it is, where a fault is counted first.
     fn counted<T>(&mut self, answer: Result<T, TreeError>) -> Result<T, TreeError>
         ensures same { result ≡ answer }
-        ensures cause { HasCause TreeError.Fault self.old self.new result }
-        ensures counts { self.new ≡ count_after self.old result }
+        ensures cause { HasCause TreeError.Fault self.old.faults self.new.faults result }
+        ensures counts { self.new.faults ≡ count_after self.old.faults result }
+        ensures told { self.new.answered ≡ self.old.answered }
     {
         if matches!(answer, Err(TreeError::Fault)) {
             self.faults.raise();
         }
         answer
+    }
+
+    /// The answer of a changing call as it is. The call is told, and a fault is counted first.
+    fn told(
+        &mut self,
+        call: ChangingCall<'_>,
+        answer: Result<(), TreeError>,
+    ) -> Result<(), TreeError>
+        ensures same { result ≡ answer }
+        ensures cause { HasCause TreeError.Fault self.old.faults self.new.faults result }
+        ensures counts { self.new.faults ≡ count_after self.old.faults result }
+        ensures told { self.new.answered ≡ with_answer (call_of call.entry) result self.old.answered }
+    {
+        self.answered.tell(call, answer);
+        self.counted(answer)
     }
 }
 
@@ -60,7 +81,9 @@ where
 {
     ghost contents = { λ _. None };
 
-    ghost fault_count = { λ count. count };
+    ghost fault_count = { λ t. t.faults };
+
+    ghost answered = { λ t. t.answered };
 
     fn stat(&mut self, alloc: Global, path: &Path) -> Result<Meta, TreeError> {
         let seen = self.machine.stat(alloc, path);
@@ -98,8 +121,8 @@ where
     R::File: FileExt,
 {
     fn make_file(&mut self, alloc: Global, path: &Path, mode: u16) -> Result<(), TreeError> {
-        let made = self.machine.make_file(alloc, path, mode);
-        self.counted(made)
+        let answer = self.machine.make_file(alloc, path, mode);
+        self.told(ChangingCall::MakeFile { path, mode }, answer)
     }
 
     fn write_at(
@@ -109,47 +132,54 @@ where
         offset: u64,
         bytes: &[u8],
     ) -> Result<(), TreeError> {
-        let written = self.machine.write_at(alloc, path, offset, bytes);
-        self.counted(written)
+        let answer = self.machine.write_at(alloc, path, offset, bytes);
+        self.told(
+            ChangingCall::WriteAt {
+                path,
+                offset,
+                bytes,
+            },
+            answer,
+        )
     }
 
     fn set_mode(&mut self, alloc: Global, path: &Path, mode: u16) -> Result<(), TreeError> {
-        let set = self.machine.set_mode(alloc, path, mode);
-        self.counted(set)
+        let answer = self.machine.set_mode(alloc, path, mode);
+        self.told(ChangingCall::SetMode { path, mode }, answer)
     }
 
     fn make_folder(&mut self, alloc: Global, path: &Path, mode: u16) -> Result<(), TreeError> {
-        let opened = self.machine.make_folder(alloc, path, mode);
-        self.counted(opened)
+        let answer = self.machine.make_folder(alloc, path, mode);
+        self.told(ChangingCall::MakeFolder { path, mode }, answer)
     }
 
     fn make_link(&mut self, alloc: Global, path: &Path, text: &str) -> Result<(), TreeError> {
-        let linked = self.machine.make_link(alloc, path, text);
-        self.counted(linked)
+        let answer = self.machine.make_link(alloc, path, text);
+        self.told(ChangingCall::MakeLink { path, text }, answer)
     }
 
     fn rename(&mut self, alloc: Global, from: &Path, to: &Path) -> Result<(), TreeError> {
-        let moved = self.machine.rename(alloc, from, to);
-        self.counted(moved)
+        let answer = self.machine.rename(alloc, from, to);
+        self.told(ChangingCall::Rename { from, to }, answer)
     }
 
     fn remove_file(&mut self, alloc: Global, path: &Path) -> Result<(), TreeError> {
-        let removed = self.machine.remove_file(alloc, path);
-        self.counted(removed)
+        let answer = self.machine.remove_file(alloc, path);
+        self.told(ChangingCall::RemoveFile(path), answer)
     }
 
     fn remove_folder(&mut self, alloc: Global, path: &Path) -> Result<(), TreeError> {
-        let emptied = self.machine.remove_folder(alloc, path);
-        self.counted(emptied)
+        let answer = self.machine.remove_folder(alloc, path);
+        self.told(ChangingCall::RemoveFolder(path), answer)
     }
 
     fn sync_file(&mut self, alloc: Global, path: &Path) -> Result<(), TreeError> {
-        let synced = self.machine.sync(alloc, path, Wanted::File);
-        self.counted(synced)
+        let answer = self.machine.sync(alloc, path, Wanted::File);
+        self.told(ChangingCall::SyncFile(path), answer)
     }
 
     fn sync_folder(&mut self, alloc: Global, path: &Path) -> Result<(), TreeError> {
-        let settled = self.machine.sync(alloc, path, Wanted::Folder);
-        self.counted(settled)
+        let answer = self.machine.sync(alloc, path, Wanted::Folder);
+        self.told(ChangingCall::SyncFolder(path), answer)
     }
 }

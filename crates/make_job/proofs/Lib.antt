@@ -1,2 +1,3 @@
 pub mod MakingFolders
 pub mod MakingRuns
+pub mod Answering

@@ -1,3 +1,4 @@
 pub mod NewThings
 pub mod Makings
 pub mod MakingSteps
+pub mod MakingAnswers

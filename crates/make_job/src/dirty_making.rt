@@ -3,6 +3,7 @@
 ghost use Rattle.std.specs.Prelude.{◌≡◌};
 ghost use Rattle.job_reports.specs.Paths.{folder_of};
 ghost use Rattle.make_job.specs.Makings.{is_dirty};
+ghost use Rattle.make_job.specs.MakingAnswers.{LastMakingAnswered, MakingAnswered};
 ghost use Rattle.make_job.specs.MakingSteps.{LastMakingStep, MakingStep};
 ghost use Rattle.job_unsynced.specs.Folders.{after_try, with_change};
 
@@ -21,6 +22,7 @@ pub fn step_making<T: Tree>(
 ) -> StepResult
     ensures steps { MakingStep making.old making.new result.did result.calls (T.contents tree.old)
         (T.contents tree.new) (T.fault_count tree.old) (T.fault_count tree.new) }
+    ensures answered { MakingAnswered making.old result.did (T.answered tree.old) (T.answered tree.new) }
     ensures leaves { dirty.new ≡ with_change (is_dirty making.old.stage) (is_dirty making.new.stage)
         (folder_of making.old.path) dirty.old }
 {
@@ -44,6 +46,8 @@ pub fn wind_up_making<T: Tree>(
     ensures winds { LastMakingStep ending making.old making.new result.did result.calls result.left
         (T.contents tree.old)
         (T.contents tree.new) (T.fault_count tree.old) (T.fault_count tree.new) }
+    ensures answered { LastMakingAnswered making.old result.did result.left
+        (T.answered tree.old) (T.answered tree.new) }
     ensures tries { dirty.new ≡ after_try result.did result.left (folder_of making.old.path) dirty.old }
 {
     let stepped = making.wind_up(alloc, tree, ending);

@@ -5,6 +5,7 @@ ghost use Rattle.std.specs.Prelude.{◌≡◌, Some};
 ghost use Rattle.mc_text.specs.Routes.{parent_of};
 ghost use Rattle.job_reports.specs.Paths.{folder_of};
 ghost use Rattle.make_job.specs.Makings.{at_barrier, is_dirty, is_fresh, skipped_stage as skipped_to};
+ghost use Rattle.make_job.specs.MakingAnswers.{LastMakingAnswered, MakingAnswered};
 ghost use Rattle.make_job.specs.MakingSteps.{LastMakingStep, MakingSkips, MakingStep};
 ghost use Rattle.make_job.specs.NewThings.{IsMakable};
 
@@ -69,8 +70,9 @@ impl ThingMaking {
 
     /// Does the next piece of work, which is at most one call of the tree.
     pub fn step<T: Tree>(&mut self, alloc: Global, tree: &mut T) -> StepResult
-        ensures { MakingStep self.old self.new result.did result.calls (T.contents tree.old)
+        ensures steps { MakingStep self.old self.new result.did result.calls (T.contents tree.old)
             (T.contents tree.new) (T.fault_count tree.old) (T.fault_count tree.new) }
+        ensures answered { MakingAnswered self.old result.did (T.answered tree.old) (T.answered tree.new) }
     {
         match self.stage {
             MakingStage::Make => self.make(alloc, tree),
@@ -97,9 +99,11 @@ impl ThingMaking {
         tree: &mut T,
         ending: Ending,
     ) -> LastStepResult
-        ensures { LastMakingStep ending self.old self.new result.did result.calls result.left
+        ensures winds { LastMakingStep ending self.old self.new result.did result.calls result.left
             (T.contents tree.old)
             (T.contents tree.new) (T.fault_count tree.old) (T.fault_count tree.new) }
+        ensures answered { LastMakingAnswered self.old result.did result.left
+            (T.answered tree.old) (T.answered tree.new) }
     {
         match self.stage {
             MakingStage::Sync => self.try_sync(alloc, tree, ending),
@@ -167,8 +171,9 @@ impl ThingMaking {
 impl ThingMaking {
     fn make<T: Tree>(&mut self, alloc: Global, tree: &mut T) -> StepResult
         requires stage { self.old.stage ≡ MakingStage.Make }
-        ensures { MakingStep self.old self.new result.did result.calls (T.contents tree.old)
+        ensures steps { MakingStep self.old self.new result.did result.calls (T.contents tree.old)
             (T.contents tree.new) (T.fault_count tree.old) (T.fault_count tree.new) }
+        ensures answered { MakingAnswered self.old result.did (T.answered tree.old) (T.answered tree.new) }
     {
         // The path of the report comes first: after the call it is too late to find no memory.
         let Ok(path) = self.path.copy(alloc) else {
@@ -185,8 +190,9 @@ impl ThingMaking {
 
     fn sync<T: Tree>(&mut self, alloc: Global, tree: &mut T) -> StepResult
         requires stage { self.old.stage ≡ MakingStage.Sync }
-        ensures { MakingStep self.old self.new result.did result.calls (T.contents tree.old)
+        ensures steps { MakingStep self.old self.new result.did result.calls (T.contents tree.old)
             (T.contents tree.new) (T.fault_count tree.old) (T.fault_count tree.new) }
+        ensures answered { MakingAnswered self.old result.did (T.answered tree.old) (T.answered tree.new) }
     {
         let owed = self.folder();
         let Ok(folder) = owed.copy(alloc) else {
@@ -204,9 +210,11 @@ impl ThingMaking {
     /// The one try of a job that is to end.
     fn try_sync<T: Tree>(&mut self, alloc: Global, tree: &mut T, ending: Ending) -> LastStepResult
         requires stage { self.old.stage ≡ MakingStage.Sync }
-        ensures { LastMakingStep ending self.old self.new result.did result.calls result.left
+        ensures winds { LastMakingStep ending self.old self.new result.did result.calls result.left
             (T.contents tree.old)
             (T.contents tree.new) (T.fault_count tree.old) (T.fault_count tree.new) }
+        ensures answered { LastMakingAnswered self.old result.did result.left
+            (T.answered tree.old) (T.answered tree.new) }
     {
         let _ending = ending;
         let answer = tree.sync_folder(alloc, self.folder());

@@ -1,5 +1,6 @@
 //! What is made anew, and the call of the tree that makes it.
 ghost use Rattle.std.specs.Prelude.{◌≡◌, None};
+ghost use Rattle.tree_trait.specs.Answered.{with_answer};
 ghost use Rattle.tree_trait.specs.declared.calls.TreeError.{TreeError};
 ghost use Rattle.tree_trait.specs.Answers.{HasCause, IfKnown, Performs};
 ghost use Rattle.make_job.specs.NewThings.{IsMakable, making_call, making_kind};
@@ -35,6 +36,8 @@ impl NewThing {
             Performs log (making_call self.now path.now) result (T.contents tree.new)) }
         ensures stays_unknown { T.contents tree.old ≡ None → T.contents tree.new ≡ None }
         ensures cause { HasCause TreeError.Fault (T.fault_count tree.old) (T.fault_count tree.new) result }
+        ensures told { T.answered tree.new
+            ≡ with_answer (making_call self.now path.now) result (T.answered tree.old) }
     {
         match self {
             NewThing::Folder => tree.make_folder(alloc, path, FOLDER_MODE),

@@ -1,6 +1,7 @@
 //! A device that passes each call on and tells nothing.
 ghost use Rattle.std.specs.Prelude.{◌≡◌, ◌+◌, ◌^◌, ◌≤◌, length, None, IfOk};
 ghost use Rattle.tree_trait.specs.FileSystem.{node};
+ghost use Rattle.tree_trait.specs.Answered.{with_answer};
 ghost use Rattle.tree_trait.specs.Calls.{Stat, ListFolder, ReadAt, ReadLink, MakeFile};
 ghost use Rattle.tree_trait.specs.Calls.{WriteAt, SetMode, MakeFolder, MakeLink, Rename};
 ghost use Rattle.tree_trait.specs.Calls.{RemoveFile, RemoveFolder, SyncFile, SyncFolder};
@@ -50,6 +51,8 @@ impl<T: ReadTree> ReadTree for Mute<T> {
 
     ghost fault_count = { λ m. T.fault_count m.inner };
 
+    ghost answered = { λ m. T.answered m.inner };
+
     fn stat(&mut self, alloc: Global, path: &Path) -> Result<Meta, TreeError>
         ensures passed_on { IfKnown (T.contents self.old.inner) (λ log.
             Reads log (Stat path.now) result (IsMeta (current log) path.now)) }
@@ -58,6 +61,7 @@ impl<T: ReadTree> ReadTree for Mute<T> {
         ensures cause { HasCause TreeError.Fault (T.fault_count self.old.inner)
             (T.fault_count self.new.inner) result }
         ensures counts { T.fault_count self.new.inner ≡ count_after (T.fault_count self.old.inner) result }
+        ensures told { T.answered self.new.inner ≡ T.answered self.old.inner }
     {
         self.inner.stat(alloc, path)
     }
@@ -71,6 +75,7 @@ impl<T: ReadTree> ReadTree for Mute<T> {
         ensures cause { HasCause TreeError.Fault (T.fault_count self.old.inner)
             (T.fault_count self.new.inner) result }
         ensures counts { T.fault_count self.new.inner ≡ count_after (T.fault_count self.old.inner) result }
+        ensures told { T.answered self.new.inner ≡ T.answered self.old.inner }
     {
         self.inner.list(alloc, path)
     }
@@ -91,6 +96,7 @@ impl<T: ReadTree> ReadTree for Mute<T> {
         ensures cause { HasCause TreeError.Fault (T.fault_count self.old.inner)
             (T.fault_count self.new.inner) result }
         ensures counts { T.fault_count self.new.inner ≡ count_after (T.fault_count self.old.inner) result }
+        ensures told { T.answered self.new.inner ≡ T.answered self.old.inner }
     {
         self.inner.read_at(alloc, path, offset, into)
     }
@@ -103,6 +109,7 @@ impl<T: ReadTree> ReadTree for Mute<T> {
         ensures cause { HasCause TreeError.Fault (T.fault_count self.old.inner)
             (T.fault_count self.new.inner) result }
         ensures counts { T.fault_count self.new.inner ≡ count_after (T.fault_count self.old.inner) result }
+        ensures told { T.answered self.new.inner ≡ T.answered self.old.inner }
     {
         self.inner.read_link(alloc, path)
     }
@@ -120,6 +127,8 @@ impl<T: Tree> Tree for Mute<T> {
         ensures cause { HasCause TreeError.Fault (T.fault_count self.old.inner)
             (T.fault_count self.new.inner) result }
         ensures counts { T.fault_count self.new.inner ≡ count_after (T.fault_count self.old.inner) result }
+        ensures told { T.answered self.new.inner
+            ≡ with_answer (MakeFile path.now mode) result (T.answered self.old.inner) }
     {
         self.inner.make_file(alloc, path, mode)
     }
@@ -137,6 +146,8 @@ impl<T: Tree> Tree for Mute<T> {
         ensures cause { HasCause TreeError.Fault (T.fault_count self.old.inner)
             (T.fault_count self.new.inner) result }
         ensures counts { T.fault_count self.new.inner ≡ count_after (T.fault_count self.old.inner) result }
+        ensures told { T.answered self.new.inner
+            ≡ with_answer (WriteAt path.now offset bytes.now) result (T.answered self.old.inner) }
     {
         self.inner.write_at(alloc, path, offset, bytes)
     }
@@ -148,6 +159,8 @@ impl<T: Tree> Tree for Mute<T> {
         ensures cause { HasCause TreeError.Fault (T.fault_count self.old.inner)
             (T.fault_count self.new.inner) result }
         ensures counts { T.fault_count self.new.inner ≡ count_after (T.fault_count self.old.inner) result }
+        ensures told { T.answered self.new.inner
+            ≡ with_answer (SetMode path.now mode) result (T.answered self.old.inner) }
     {
         self.inner.set_mode(alloc, path, mode)
     }
@@ -159,6 +172,8 @@ impl<T: Tree> Tree for Mute<T> {
         ensures cause { HasCause TreeError.Fault (T.fault_count self.old.inner)
             (T.fault_count self.new.inner) result }
         ensures counts { T.fault_count self.new.inner ≡ count_after (T.fault_count self.old.inner) result }
+        ensures told { T.answered self.new.inner
+            ≡ with_answer (MakeFolder path.now mode) result (T.answered self.old.inner) }
     {
         self.inner.make_folder(alloc, path, mode)
     }
@@ -170,6 +185,8 @@ impl<T: Tree> Tree for Mute<T> {
         ensures cause { HasCause TreeError.Fault (T.fault_count self.old.inner)
             (T.fault_count self.new.inner) result }
         ensures counts { T.fault_count self.new.inner ≡ count_after (T.fault_count self.old.inner) result }
+        ensures told { T.answered self.new.inner
+            ≡ with_answer (MakeLink path.now text.now) result (T.answered self.old.inner) }
     {
         self.inner.make_link(alloc, path, text)
     }
@@ -180,6 +197,8 @@ impl<T: Tree> Tree for Mute<T> {
         ensures cause { HasCause TreeError.Fault (T.fault_count self.old.inner)
             (T.fault_count self.new.inner) result }
         ensures counts { T.fault_count self.new.inner ≡ count_after (T.fault_count self.old.inner) result }
+        ensures told { T.answered self.new.inner
+            ≡ with_answer (Rename from.now to.now) result (T.answered self.old.inner) }
     {
         self.inner.rename(alloc, from, to)
     }
@@ -190,6 +209,8 @@ impl<T: Tree> Tree for Mute<T> {
         ensures cause { HasCause TreeError.Fault (T.fault_count self.old.inner)
             (T.fault_count self.new.inner) result }
         ensures counts { T.fault_count self.new.inner ≡ count_after (T.fault_count self.old.inner) result }
+        ensures told { T.answered self.new.inner
+            ≡ with_answer (RemoveFile path.now) result (T.answered self.old.inner) }
     {
         self.inner.remove_file(alloc, path)
     }
@@ -200,6 +221,8 @@ impl<T: Tree> Tree for Mute<T> {
         ensures cause { HasCause TreeError.Fault (T.fault_count self.old.inner)
             (T.fault_count self.new.inner) result }
         ensures counts { T.fault_count self.new.inner ≡ count_after (T.fault_count self.old.inner) result }
+        ensures told { T.answered self.new.inner
+            ≡ with_answer (RemoveFolder path.now) result (T.answered self.old.inner) }
     {
         self.inner.remove_folder(alloc, path)
     }
@@ -210,6 +233,8 @@ impl<T: Tree> Tree for Mute<T> {
         ensures cause { HasCause TreeError.Fault (T.fault_count self.old.inner)
             (T.fault_count self.new.inner) result }
         ensures counts { T.fault_count self.new.inner ≡ count_after (T.fault_count self.old.inner) result }
+        ensures told { T.answered self.new.inner
+            ≡ with_answer (SyncFile path.now) result (T.answered self.old.inner) }
     {
         self.inner.sync_file(alloc, path)
     }
@@ -220,6 +245,8 @@ impl<T: Tree> Tree for Mute<T> {
         ensures cause { HasCause TreeError.Fault (T.fault_count self.old.inner)
             (T.fault_count self.new.inner) result }
         ensures counts { T.fault_count self.new.inner ≡ count_after (T.fault_count self.old.inner) result }
+        ensures told { T.answered self.new.inner
+            ≡ with_answer (SyncFolder path.now) result (T.answered self.old.inner) }
     {
         self.inner.sync_folder(alloc, path)
     }

@@ -5,6 +5,7 @@ use Rattle.tree_trait.specs.declared.file_system.Node.{Node}
 use Rattle.tree_trait.specs.declared.file_system.Mount.{Mount}
 use Rattle.tree_trait.specs.declared.file_system.FileSystem.{FileSystem}
 use Rattle.mc_text.specs.Routes.{Route}
+use Rattle.tree_trait.specs.Answered.{Answered}
 use Rattle.tree_trait.specs.Shape.{IsTree}
 use Rattle.tree_trait.specs.Change.{CallLog, Makes, after_change, of_name}
 use Rattle.mem_tree.specs.declared.record.Record.{Record}
@@ -16,13 +17,14 @@ use Rattle.mem_tree.specs.Fills.{filled_bytes}
 use Rattle.tree_trait.specs.CrashImages.{image_by_bits}
 
 -- `fails` names the calls that fail, `called` counts the calls, and for so many calls
--- as `spare` there is room
+-- as `spare` there is room; `answered` has the changing calls, the newest first
 pub record Held : Type 0 where
   pub log : CallLog
   pub time : ℤ
   pub fails : List ℕ
   pub called : ℕ
   pub faults : ℕ
+  pub answered : List Answered
   pub spare : ℕ
 
 -- the log of an opening and the records since
@@ -72,6 +74,7 @@ unused_tree s time = record {
   fails = [];
   called = 0;
   faults = 0;
+  answered = [];
   spare = 0;
 }
 

@@ -1,6 +1,7 @@
 //! The calls of a tree in memory.
 ghost use Rattle.std.specs.Prelude.{◌≡◌, ◌+◌, ◌^◌, ◌≤◌, length, Some, IfOk};
 ghost use Rattle.tree_trait.specs.FileSystem.{node};
+ghost use Rattle.tree_trait.specs.Answered.{with_answer};
 ghost use Rattle.tree_trait.specs.Calls.{Stat, ListFolder, ReadAt, ReadLink, MakeFile};
 ghost use Rattle.tree_trait.specs.Calls.{WriteAt, SetMode, MakeFolder, MakeLink, Rename};
 ghost use Rattle.tree_trait.specs.Calls.{RemoveFile, RemoveFolder, SyncFile, SyncFolder};
@@ -20,12 +21,14 @@ use crate::tree::MemTree;
 use mc_text::{Path, Text};
 use std::alloc::Global;
 use tree_rules::{read_bytes, read_children, read_meta};
-use tree_trait::{Children, Meta, ReadTree, Tree, TreeError};
+use tree_trait::{ChangingCall, Children, Meta, ReadTree, Tree, TreeError};
 
 impl ReadTree for MemTree {
     ghost contents = { λ m. Some m.log };
 
     ghost fault_count = { λ m. m.faults };
+
+    ghost answered = { λ m. m.answered };
 
     fn stat(&mut self, _alloc: Global, path: &Path) -> Result<Meta, TreeError>
         ensures answer { Reads self.old.log (Stat path.now) result (IsMeta (current self.old.log) path.now) }
@@ -33,6 +36,7 @@ impl ReadTree for MemTree {
         ensures in_range { IfOk result IsInRange }
         ensures cause { HasCause TreeError.Fault self.old.faults self.new.faults result }
         ensures counts { self.new.faults ≡ count_after self.old.faults result }
+        ensures told { self.new.answered ≡ self.old.answered }
         ensures counted { IsCounted self.old self.new result }
     {
         let due = count(&self.fails, &mut self.called);
@@ -49,6 +53,7 @@ impl ReadTree for MemTree {
         ensures ascending { IfOk result (λ children. IsAscending children.names) }
         ensures cause { HasCause TreeError.Fault self.old.faults self.new.faults result }
         ensures counts { self.new.faults ≡ count_after self.old.faults result }
+        ensures told { self.new.answered ≡ self.old.answered }
         ensures counted { IsCounted self.old self.new result }
     {
         let due = count(&self.fails, &mut self.called);
@@ -72,6 +77,7 @@ impl ReadTree for MemTree {
         ensures in_room { IfOk result (λ count. count ≤ length into.old) }
         ensures cause { HasCause TreeError.Fault self.old.faults self.new.faults result }
         ensures counts { self.new.faults ≡ count_after self.old.faults result }
+        ensures told { self.new.answered ≡ self.old.answered }
         ensures counted { IsCounted self.old self.new result }
     {
         let due = count(&self.fails, &mut self.called);
@@ -89,6 +95,7 @@ impl ReadTree for MemTree {
         ensures link_text { IfOk result IsLinkText }
         ensures cause { HasCause TreeError.Fault self.old.faults self.new.faults result }
         ensures counts { self.new.faults ≡ count_after self.old.faults result }
+        ensures told { self.new.answered ≡ self.old.answered }
         ensures counted { IsCounted self.old self.new result }
     {
         let due = count(&self.fails, &mut self.called);
@@ -109,12 +116,15 @@ impl Tree for MemTree {
         ensures answer { Performs self.old.log (MakeFile path.now mode) result (Some self.new.log) }
         ensures cause { HasCause TreeError.Fault self.old.faults self.new.faults result }
         ensures counts { self.new.faults ≡ count_after self.old.faults result }
+        ensures told { self.new.answered ≡ with_answer (MakeFile path.now mode) result self.old.answered }
         ensures counted { IsCounted self.old self.new result }
     {
         let due = count(&self.fails, &mut self.called);
         let plan = plan_make_file(alloc, &self.stands, path.names(), mode, self.time);
         let answer = conclude(alloc, &mut self.stands, &mut self.records, due, plan);
         count_fault(&answer, &mut self.faults);
+        self.answered
+            .tell(ChangingCall::MakeFile { path, mode }, answer);
         answer
     }
 
@@ -130,12 +140,22 @@ impl Tree for MemTree {
             (Some self.new.log) }
         ensures cause { HasCause TreeError.Fault self.old.faults self.new.faults result }
         ensures counts { self.new.faults ≡ count_after self.old.faults result }
+        ensures told { self.new.answered
+            ≡ with_answer (WriteAt path.now offset bytes.now) result self.old.answered }
         ensures counted { IsCounted self.old self.new result }
     {
         let due = count(&self.fails, &mut self.called);
         let plan = plan_write_at(alloc, &self.stands, path.names(), offset, bytes, self.time);
         let answer = conclude(alloc, &mut self.stands, &mut self.records, due, plan);
         count_fault(&answer, &mut self.faults);
+        self.answered.tell(
+            ChangingCall::WriteAt {
+                path,
+                offset,
+                bytes,
+            },
+            answer,
+        );
         answer
     }
 
@@ -144,6 +164,7 @@ impl Tree for MemTree {
         ensures answer { Performs self.old.log (SetMode path.now mode) result (Some self.new.log) }
         ensures cause { HasCause TreeError.Fault self.old.faults self.new.faults result }
         ensures counts { self.new.faults ≡ count_after self.old.faults result }
+        ensures told { self.new.answered ≡ with_answer (SetMode path.now mode) result self.old.answered }
         ensures counted { IsCounted self.old self.new result }
         ensures place { TakesOnePlace self.old self.new result }
     {
@@ -151,6 +172,8 @@ impl Tree for MemTree {
         let plan = plan_set_mode(&self.stands, path.names(), mode, self.time);
         let answer = conclude(alloc, &mut self.stands, &mut self.records, due, plan);
         count_fault(&answer, &mut self.faults);
+        self.answered
+            .tell(ChangingCall::SetMode { path, mode }, answer);
         answer
     }
 
@@ -159,12 +182,15 @@ impl Tree for MemTree {
         ensures answer { Performs self.old.log (MakeFolder path.now mode) result (Some self.new.log) }
         ensures cause { HasCause TreeError.Fault self.old.faults self.new.faults result }
         ensures counts { self.new.faults ≡ count_after self.old.faults result }
+        ensures told { self.new.answered ≡ with_answer (MakeFolder path.now mode) result self.old.answered }
         ensures counted { IsCounted self.old self.new result }
     {
         let due = count(&self.fails, &mut self.called);
         let plan = plan_make_folder(alloc, &self.stands, path.names(), mode, self.time);
         let answer = conclude(alloc, &mut self.stands, &mut self.records, due, plan);
         count_fault(&answer, &mut self.faults);
+        self.answered
+            .tell(ChangingCall::MakeFolder { path, mode }, answer);
         answer
     }
 
@@ -173,12 +199,15 @@ impl Tree for MemTree {
         ensures answer { Performs self.old.log (MakeLink path.now text.now) result (Some self.new.log) }
         ensures cause { HasCause TreeError.Fault self.old.faults self.new.faults result }
         ensures counts { self.new.faults ≡ count_after self.old.faults result }
+        ensures told { self.new.answered ≡ with_answer (MakeLink path.now text.now) result self.old.answered }
         ensures counted { IsCounted self.old self.new result }
     {
         let due = count(&self.fails, &mut self.called);
         let plan = plan_make_link(alloc, &self.stands, path.names(), text, self.time);
         let answer = conclude(alloc, &mut self.stands, &mut self.records, due, plan);
         count_fault(&answer, &mut self.faults);
+        self.answered
+            .tell(ChangingCall::MakeLink { path, text }, answer);
         answer
     }
 
@@ -186,12 +215,15 @@ impl Tree for MemTree {
         ensures answer { Performs self.old.log (Rename from.now to.now) result (Some self.new.log) }
         ensures cause { HasCause TreeError.Fault self.old.faults self.new.faults result }
         ensures counts { self.new.faults ≡ count_after self.old.faults result }
+        ensures told { self.new.answered ≡ with_answer (Rename from.now to.now) result self.old.answered }
         ensures counted { IsCounted self.old self.new result }
     {
         let due = count(&self.fails, &mut self.called);
         let plan = plan_rename(alloc, &self.stands, from, to, self.time);
         let answer = conclude(alloc, &mut self.stands, &mut self.records, due, plan);
         count_fault(&answer, &mut self.faults);
+        self.answered
+            .tell(ChangingCall::Rename { from, to }, answer);
         answer
     }
 
@@ -199,6 +231,7 @@ impl Tree for MemTree {
         ensures answer { Performs self.old.log (RemoveFile path.now) result (Some self.new.log) }
         ensures cause { HasCause TreeError.Fault self.old.faults self.new.faults result }
         ensures counts { self.new.faults ≡ count_after self.old.faults result }
+        ensures told { self.new.answered ≡ with_answer (RemoveFile path.now) result self.old.answered }
         ensures counted { IsCounted self.old self.new result }
         ensures place { TakesOnePlace self.old self.new result }
     {
@@ -206,6 +239,7 @@ impl Tree for MemTree {
         let plan = plan_remove_file(&self.stands, path.names(), self.time);
         let answer = conclude(alloc, &mut self.stands, &mut self.records, due, plan);
         count_fault(&answer, &mut self.faults);
+        self.answered.tell(ChangingCall::RemoveFile(path), answer);
         answer
     }
 
@@ -213,6 +247,7 @@ impl Tree for MemTree {
         ensures answer { Performs self.old.log (RemoveFolder path.now) result (Some self.new.log) }
         ensures cause { HasCause TreeError.Fault self.old.faults self.new.faults result }
         ensures counts { self.new.faults ≡ count_after self.old.faults result }
+        ensures told { self.new.answered ≡ with_answer (RemoveFolder path.now) result self.old.answered }
         ensures counted { IsCounted self.old self.new result }
         ensures place { TakesOnePlace self.old self.new result }
     {
@@ -220,6 +255,7 @@ impl Tree for MemTree {
         let plan = plan_remove_folder(&self.stands, path.names(), self.time);
         let answer = conclude(alloc, &mut self.stands, &mut self.records, due, plan);
         count_fault(&answer, &mut self.faults);
+        self.answered.tell(ChangingCall::RemoveFolder(path), answer);
         answer
     }
 
@@ -227,6 +263,7 @@ impl Tree for MemTree {
         ensures answer { Performs self.old.log (SyncFile path.now) result (Some self.new.log) }
         ensures cause { HasCause TreeError.Fault self.old.faults self.new.faults result }
         ensures counts { self.new.faults ≡ count_after self.old.faults result }
+        ensures told { self.new.answered ≡ with_answer (SyncFile path.now) result self.old.answered }
         ensures counted { IsCounted self.old self.new result }
         ensures place { TakesOnePlace self.old self.new result }
     {
@@ -234,6 +271,7 @@ impl Tree for MemTree {
         let plan = plan_sync_file(&self.stands, path.names(), self.time);
         let answer = conclude(alloc, &mut self.stands, &mut self.records, due, plan);
         count_fault(&answer, &mut self.faults);
+        self.answered.tell(ChangingCall::SyncFile(path), answer);
         answer
     }
 
@@ -241,6 +279,7 @@ impl Tree for MemTree {
         ensures answer { Performs self.old.log (SyncFolder path.now) result (Some self.new.log) }
         ensures cause { HasCause TreeError.Fault self.old.faults self.new.faults result }
         ensures counts { self.new.faults ≡ count_after self.old.faults result }
+        ensures told { self.new.answered ≡ with_answer (SyncFolder path.now) result self.old.answered }
         ensures counted { IsCounted self.old self.new result }
         ensures place { TakesOnePlace self.old self.new result }
     {
@@ -248,6 +287,7 @@ impl Tree for MemTree {
         let plan = plan_sync_folder(&self.stands, path.names(), self.time);
         let answer = conclude(alloc, &mut self.stands, &mut self.records, due, plan);
         count_fault(&answer, &mut self.faults);
+        self.answered.tell(ChangingCall::SyncFolder(path), answer);
         answer
     }
 }

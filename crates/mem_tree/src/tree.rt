@@ -19,7 +19,7 @@ use crate::record::Record;
 use mc_text::{NoMemory, Path};
 use std::alloc::Global;
 use std::marker::Model;
-use tree_trait::{FileSystem, TreeError};
+use tree_trait::{AnsweredCalls, FileSystem, TreeError};
 
 /// A tree in memory.
 #[derive(Drop)]
@@ -34,6 +34,8 @@ pub struct MemTree {
     pub(crate) fails: Vec<u64>,
     pub(crate) called: u64,
     pub(crate) faults: u64,
+    /// For contracts alone.
+    pub(crate) answered: AnsweredCalls,
 }
 
 impl Model for MemTree {
@@ -48,6 +50,7 @@ impl Model for MemTree {
       fails = m.fails.items;
       called = m.called;
       faults = m.faults;
+      answered = m.answered.calls;
       spare = vec_capacity m.records - vec_len m.records;
     } };
 
@@ -67,6 +70,7 @@ fn unused(alloc: Global, opening: FileSystem, stands: FileSystem, time: i64) -> 
         fails: Vec::new(alloc),
         called: 0,
         faults: 0,
+        answered: AnsweredCalls::new(),
     }
 }
 

@@ -30,6 +30,8 @@ impl<T: ReadTree> ReadTree for Shrunk<T> {
 
     ghost fault_count = { λ s. T.fault_count s.inner };
 
+    ghost answered = { λ s. T.answered s.inner };
+
     fn stat(&mut self, alloc: Global, path: &Path) -> Result<Meta, TreeError> {
         self.inner.stat(alloc, path)
     }

@@ -12,3 +12,4 @@ pub mod Choosing
 pub mod Kept
 pub mod Visible
 pub mod BareRoot
+pub mod Walks

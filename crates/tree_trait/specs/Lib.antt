@@ -1,5 +1,7 @@
 pub mod FileSystem
 pub mod Calls
+pub mod Answered
+pub mod Changing
 pub mod Refusals
 pub mod Change
 pub mod CrashImages

@@ -2,7 +2,9 @@
 //! other devices of a session.
 #![tactic(auto)]
 
+mod answered;
 mod calls;
+mod changing;
 mod devices;
 mod file_system;
 mod laws;
@@ -10,7 +12,9 @@ mod list;
 mod read_tree;
 mod tree;
 
+pub use answered::AnsweredCalls;
 pub use calls::{Children, Meta, TreeError};
+pub use changing::ChangingCall;
 pub use devices::{
     Clock, Command, Commands, OUTPUT_BYTES, RunOutcome, Sink, SinkError, Source, SourceFault,
     SpawnError, Spawner,

@@ -1,5 +1,6 @@
 //! The calls that look at a tree of files and change nothing.
-ghost use Rattle.std.specs.Prelude.{◌≡◌, ℕ, ◌≤◌, length, Option, IfOk};
+ghost use Rattle.std.specs.Prelude.{◌≡◌, ℕ, ◌≤◌, List, length, Option, IfOk};
+ghost use Rattle.tree_trait.specs.Answered.{Answered};
 ghost use Rattle.tree_trait.specs.Calls.{Stat, ListFolder, ReadAt, ReadLink};
 ghost use Rattle.tree_trait.specs.FileSystem.{node};
 ghost use Rattle.tree_trait.specs.Change.{CallLog, current, found_node};
@@ -19,6 +20,9 @@ pub trait ReadTree {
     /// How often the tree has failed.
     ghost fault_count: { Self → ℕ };
 
+    /// The changing calls that were made on it, and what each answered, the newest first. Each tree tells this.
+    ghost answered: { Self → List Answered };
+
     /// What stands at a path: a link is not followed.
     fn stat(&mut self, alloc: Global, path: &Path) -> Result<Meta, TreeError>
         ensures answer { IfKnown (contents self.old) (λ log.
@@ -26,7 +30,8 @@ pub trait ReadTree {
         ensures same { contents self.new ≡ contents self.old }
         ensures in_range { IfOk result IsInRange }
         ensures cause { HasCause TreeError.Fault (fault_count self.old) (fault_count self.new) result }
-        ensures counts { fault_count self.new ≡ count_after (fault_count self.old) result };
+        ensures counts { fault_count self.new ≡ count_after (fault_count self.old) result }
+        ensures told { answered self.new ≡ answered self.old };
 
     /// The children of a folder, in byte order of their names.
     fn list(&mut self, alloc: Global, path: &Path) -> Result<Children, TreeError>
@@ -36,7 +41,8 @@ pub trait ReadTree {
         ensures same { contents self.new ≡ contents self.old }
         ensures ascending { IfOk result (λ children. IsAscending children.names) }
         ensures cause { HasCause TreeError.Fault (fault_count self.old) (fault_count self.new) result }
-        ensures counts { fault_count self.new ≡ count_after (fault_count self.old) result };
+        ensures counts { fault_count self.new ≡ count_after (fault_count self.old) result }
+        ensures told { answered self.new ≡ answered self.old };
 
     /// Reads bytes of a file from an offset on: as many as are there and `into` has room for, and past the
     /// end none. What stands in `into` behind them isn't fixed.
@@ -54,7 +60,8 @@ pub trait ReadTree {
         ensures same { contents self.new ≡ contents self.old }
         ensures in_room { IfOk result (λ count. count ≤ length into.old) }
         ensures cause { HasCause TreeError.Fault (fault_count self.old) (fault_count self.new) result }
-        ensures counts { fault_count self.new ≡ count_after (fault_count self.old) result };
+        ensures counts { fault_count self.new ≡ count_after (fault_count self.old) result }
+        ensures told { answered self.new ≡ answered self.old };
 
     /// The text of a link.
     fn read_link(&mut self, alloc: Global, path: &Path) -> Result<Text, TreeError>
@@ -63,7 +70,8 @@ pub trait ReadTree {
         ensures same { contents self.new ≡ contents self.old }
         ensures link_text { IfOk result IsLinkText }
         ensures cause { HasCause TreeError.Fault (fault_count self.old) (fault_count self.new) result }
-        ensures counts { fault_count self.new ≡ count_after (fault_count self.old) result };
+        ensures counts { fault_count self.new ≡ count_after (fault_count self.old) result }
+        ensures told { answered self.new ≡ answered self.old };
 
     /// How often the tree has failed: how many calls were answered `Fault`. It stays at its last value.
     fn faults(&self) -> u64

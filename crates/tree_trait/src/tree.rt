@@ -1,5 +1,6 @@
 //! The calls of a tree of files that change it.
 ghost use Rattle.std.specs.Prelude.{◌≡◌, ◌+◌, ◌^◌, ◌≤◌, length, None};
+ghost use Rattle.tree_trait.specs.Answered.{with_answer};
 ghost use Rattle.tree_trait.specs.Calls.{MakeFile, WriteAt, SetMode, MakeFolder, MakeLink};
 ghost use Rattle.tree_trait.specs.Calls.{Rename, RemoveFile, RemoveFolder, SyncFile, SyncFolder};
 ghost use Rattle.tree_trait.specs.Answers.{HasCause, IfKnown, Performs, count_after, IsLinkText};
@@ -20,7 +21,9 @@ pub trait Tree: ReadTree {
         ensures stays_unknown { Self.contents self.old ≡ None → Self.contents self.new ≡ None }
         ensures cause { HasCause TreeError.Fault (Self.fault_count self.old)
             (Self.fault_count self.new) result }
-        ensures counts { Self.fault_count self.new ≡ count_after (Self.fault_count self.old) result };
+        ensures counts { Self.fault_count self.new ≡ count_after (Self.fault_count self.old) result }
+        ensures told { Self.answered self.new
+            ≡ with_answer (MakeFile path.now mode) result (Self.answered self.old) };
 
     /// Writes bytes into a file over what stands at an offset. Between the old end and the offset come
     /// zeros. Where the device failed, any bytes may be left in the file.
@@ -37,7 +40,9 @@ pub trait Tree: ReadTree {
         ensures stays_unknown { Self.contents self.old ≡ None → Self.contents self.new ≡ None }
         ensures cause { HasCause TreeError.Fault (Self.fault_count self.old)
             (Self.fault_count self.new) result }
-        ensures counts { Self.fault_count self.new ≡ count_after (Self.fault_count self.old) result };
+        ensures counts { Self.fault_count self.new ≡ count_after (Self.fault_count self.old) result }
+        ensures told { Self.answered self.new
+            ≡ with_answer (WriteAt path.now offset bytes.now) result (Self.answered self.old) };
 
     /// Sets the twelve mode bits of a file or a folder.
     fn set_mode(&mut self, alloc: Global, path: &Path, mode: u16) -> Result<(), TreeError>
@@ -47,7 +52,9 @@ pub trait Tree: ReadTree {
         ensures stays_unknown { Self.contents self.old ≡ None → Self.contents self.new ≡ None }
         ensures cause { HasCause TreeError.Fault (Self.fault_count self.old)
             (Self.fault_count self.new) result }
-        ensures counts { Self.fault_count self.new ≡ count_after (Self.fault_count self.old) result };
+        ensures counts { Self.fault_count self.new ≡ count_after (Self.fault_count self.old) result }
+        ensures told { Self.answered self.new
+            ≡ with_answer (SetMode path.now mode) result (Self.answered self.old) };
 
     /// Makes an empty folder.
     fn make_folder(&mut self, alloc: Global, path: &Path, mode: u16) -> Result<(), TreeError>
@@ -57,7 +64,9 @@ pub trait Tree: ReadTree {
         ensures stays_unknown { Self.contents self.old ≡ None → Self.contents self.new ≡ None }
         ensures cause { HasCause TreeError.Fault (Self.fault_count self.old)
             (Self.fault_count self.new) result }
-        ensures counts { Self.fault_count self.new ≡ count_after (Self.fault_count self.old) result };
+        ensures counts { Self.fault_count self.new ≡ count_after (Self.fault_count self.old) result }
+        ensures told { Self.answered self.new
+            ≡ with_answer (MakeFolder path.now mode) result (Self.answered self.old) };
 
     /// Makes a link with a text of 1 to 4,095 bytes and no NUL.
     fn make_link(&mut self, alloc: Global, path: &Path, text: &str) -> Result<(), TreeError>
@@ -67,7 +76,9 @@ pub trait Tree: ReadTree {
         ensures stays_unknown { Self.contents self.old ≡ None → Self.contents self.new ≡ None }
         ensures cause { HasCause TreeError.Fault (Self.fault_count self.old)
             (Self.fault_count self.new) result }
-        ensures counts { Self.fault_count self.new ≡ count_after (Self.fault_count self.old) result };
+        ensures counts { Self.fault_count self.new ≡ count_after (Self.fault_count self.old) result }
+        ensures told { Self.answered self.new
+            ≡ with_answer (MakeLink path.now text.now) result (Self.answered self.old) };
 
     /// Gives a thing another name in one edit, and replaces what that name led to.
     fn rename(&mut self, alloc: Global, from: &Path, to: &Path) -> Result<(), TreeError>
@@ -76,7 +87,9 @@ pub trait Tree: ReadTree {
         ensures stays_unknown { Self.contents self.old ≡ None → Self.contents self.new ≡ None }
         ensures cause { HasCause TreeError.Fault (Self.fault_count self.old)
             (Self.fault_count self.new) result }
-        ensures counts { Self.fault_count self.new ≡ count_after (Self.fault_count self.old) result };
+        ensures counts { Self.fault_count self.new ≡ count_after (Self.fault_count self.old) result }
+        ensures told { Self.answered self.new
+            ≡ with_answer (Rename from.now to.now) result (Self.answered self.old) };
 
     /// Removes the name of a thing that is no folder.
     fn remove_file(&mut self, alloc: Global, path: &Path) -> Result<(), TreeError>
@@ -85,7 +98,9 @@ pub trait Tree: ReadTree {
         ensures stays_unknown { Self.contents self.old ≡ None → Self.contents self.new ≡ None }
         ensures cause { HasCause TreeError.Fault (Self.fault_count self.old)
             (Self.fault_count self.new) result }
-        ensures counts { Self.fault_count self.new ≡ count_after (Self.fault_count self.old) result };
+        ensures counts { Self.fault_count self.new ≡ count_after (Self.fault_count self.old) result }
+        ensures told { Self.answered self.new
+            ≡ with_answer (RemoveFile path.now) result (Self.answered self.old) };
 
     /// Removes the name of an empty folder.
     fn remove_folder(&mut self, alloc: Global, path: &Path) -> Result<(), TreeError>
@@ -94,7 +109,9 @@ pub trait Tree: ReadTree {
         ensures stays_unknown { Self.contents self.old ≡ None → Self.contents self.new ≡ None }
         ensures cause { HasCause TreeError.Fault (Self.fault_count self.old)
             (Self.fault_count self.new) result }
-        ensures counts { Self.fault_count self.new ≡ count_after (Self.fault_count self.old) result };
+        ensures counts { Self.fault_count self.new ≡ count_after (Self.fault_count self.old) result }
+        ensures told { Self.answered self.new
+            ≡ with_answer (RemoveFolder path.now) result (Self.answered self.old) };
 
     /// Brings the bytes of a file, and its mode, onto the disk.
     fn sync_file(&mut self, alloc: Global, path: &Path) -> Result<(), TreeError>
@@ -103,7 +120,9 @@ pub trait Tree: ReadTree {
         ensures stays_unknown { Self.contents self.old ≡ None → Self.contents self.new ≡ None }
         ensures cause { HasCause TreeError.Fault (Self.fault_count self.old)
             (Self.fault_count self.new) result }
-        ensures counts { Self.fault_count self.new ≡ count_after (Self.fault_count self.old) result };
+        ensures counts { Self.fault_count self.new ≡ count_after (Self.fault_count self.old) result }
+        ensures told { Self.answered self.new
+            ≡ with_answer (SyncFile path.now) result (Self.answered self.old) };
 
     /// Brings the names of a folder, and its mode, onto the disk.
     fn sync_folder(&mut self, alloc: Global, path: &Path) -> Result<(), TreeError>
@@ -112,5 +131,7 @@ pub trait Tree: ReadTree {
         ensures stays_unknown { Self.contents self.old ≡ None → Self.contents self.new ≡ None }
         ensures cause { HasCause TreeError.Fault (Self.fault_count self.old)
             (Self.fault_count self.new) result }
-        ensures counts { Self.fault_count self.new ≡ count_after (Self.fault_count self.old) result };
+        ensures counts { Self.fault_count self.new ≡ count_after (Self.fault_count self.old) result }
+        ensures told { Self.answered self.new
+            ≡ with_answer (SyncFolder path.now) result (Self.answered self.old) };
 }

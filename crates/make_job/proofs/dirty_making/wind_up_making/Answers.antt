@@ -9,4 +9,4 @@ pub returns-clause-tries : goal.returns-clause-tries
 returns-clause-tries g c =
     c.note_try.ensures
     ∙ ap (λ f. after_try c.wind_up-stepped.result.did c.wind_up-stepped.result.left f c.args.dirty.now)
-    (c.folder.ensures.is ∙ ap folder_of (making_winds_there c.args.ending c.args.making.now c.wind_up-stepped.new.self _ c.wind_up-stepped.ensures.tells))
+    (c.folder.ensures.is ∙ ap folder_of (making_winds_there c.args.ending c.args.making.now c.wind_up-stepped.new.self _ c.wind_up-stepped.ensures.winds.tells))
