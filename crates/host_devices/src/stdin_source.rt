@@ -50,6 +50,10 @@ impl<R: Input> Source for StdinSource<R> {
         }
     }
 
+    fn next_is(&mut self, _byte: u8) -> bool {
+        false
+    }
+
     fn faults(&self) -> u64 {
         self.faults.count()
     }

@@ -29,6 +29,10 @@ impl<R: Print> Sink for Device<Stdout, R> {
         Err(SinkError::Fault)
     }
 
+    fn size(&mut self) -> Option<(u16, u16)> {
+        None
+    }
+
     fn faults(&self) -> u64 {
         self.faults.count()
     }

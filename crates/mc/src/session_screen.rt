@@ -54,6 +54,10 @@ impl<R: Print> Sink for SessionScreen<R> {
         self.output.put(alloc, bytes)
     }
 
+    fn size(&mut self) -> Option<(u16, u16)> {
+        self.output.size()
+    }
+
     fn faults(&self) -> u64 {
         self.output.faults()
     }

@@ -8,7 +8,7 @@ ghost use Rattle.tree_trait.specs.Calls.{RemoveFile, RemoveFolder, SyncFile, Syn
 ghost use Rattle.tree_trait.specs.Change.{current, found_node};
 ghost use Rattle.tree_trait.specs.Answers.{HasCause, count_after, IfKnown, Reads, Performs, IsMeta};
 ghost use Rattle.tree_trait.specs.Answers.{IsListing, IsRead, IsLinkText, IsInRange, IsAscending};
-ghost use Rattle.tree_trait.specs.Devices.{HasTaken, HasPut, HasRun};
+ghost use Rattle.tree_trait.specs.Devices.{HasTaken, is_next, HasPut, HasRun};
 
 use mc_text::{Path, Text};
 use std::alloc::Global;
@@ -267,6 +267,13 @@ impl<T: Source> Source for Mute<T> {
         self.inner.take(into)
     }
 
+    fn next_is(&mut self, byte: u8) -> bool
+        ensures passed_on { IfKnown (T.left self.old.inner) (λ bytes. result ≡ is_next byte bytes) }
+        ensures inner_stays { T.left self.new.inner ≡ T.left self.old.inner }
+    {
+        self.inner.next_is(byte)
+    }
+
     fn faults(&self) -> u64 {
         self.inner.faults()
     }
@@ -284,6 +291,12 @@ impl<T: Sink> Sink for Mute<T> {
             (T.fault_count self.new.inner) result }
     {
         self.inner.put(alloc, bytes)
+    }
+
+    fn size(&mut self) -> Option<(u16, u16)>
+        ensures inner_stays { T.given self.new.inner ≡ T.given self.old.inner }
+    {
+        self.inner.size()
     }
 
     fn faults(&self) -> u64 {

@@ -1,5 +1,5 @@
 //! A screen in memory, which keeps what it was given.
-ghost use Rattle.std.specs.Prelude.{◌≡◌, ◌↔◌, [], ◌++◌, Some, Err};
+ghost use Rattle.std.specs.Prelude.{◌≡◌, ◌↔◌, [], ◌++◌, None, Some, Err};
 ghost use Rattle.tree_trait.specs.Answers.{HasCause, one_more};
 ghost use Rattle.tree_trait.specs.Devices.{HasPut};
 ghost use Rattle.mem_devices.specs.Devices.{Screen};
@@ -74,6 +74,13 @@ impl Sink for MemSink {
             Err(_) => Err(SinkError::Memory),
             Ok(()) => Ok(()),
         }
+    }
+
+    fn size(&mut self) -> Option<(u16, u16)>
+        ensures untouched { self.new ≡ self.old }
+        ensures unknown { result ≡ None }
+    {
+        None
     }
 
     fn faults(&self) -> u64 {

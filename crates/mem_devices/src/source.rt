@@ -1,7 +1,7 @@
 //! A source of keys in memory.
 ghost use Rattle.std.specs.Prelude.{◌≡◌, ◌↔◌, ◌≤◌, length, Some, Err, IfOk};
 ghost use Rattle.tree_trait.specs.Answers.{HasCause, one_more};
-ghost use Rattle.tree_trait.specs.Devices.{HasTaken};
+ghost use Rattle.tree_trait.specs.Devices.{HasTaken, is_next};
 ghost use Rattle.mem_devices.specs.Devices.{Keys};
 
 use mc_text::Bytes;
@@ -73,6 +73,16 @@ impl Source for MemSource {
         into[..count].copy_from_slice(&left[..count]);
         self.taken += count;
         Ok(count)
+    }
+
+    fn next_is(&mut self, byte: u8) -> bool
+        ensures answer { result ≡ is_next byte self.old.left }
+        ensures untouched { self.new ≡ self.old }
+    {
+        match self.bytes.0.as_slice()[self.taken..].first() {
+            Some(next) => *next == byte,
+            None => false,
+        }
     }
 
     fn faults(&self) -> u64 {

@@ -58,7 +58,7 @@ item_rows column inside height pane (suc place) =
 abbrev pub unnamed_text : ℕ → List ℕ
 unnamed_text count = if count == 0 then [] else 32 ∷ (decimal count ++ codes " unnamed")
 
--- the third row from below: the current name, fitted to what that text leaves of the inside, and the text
+-- the fourth row from below: the current name, fitted to what that text leaves of the inside, and the text
 abbrev pub name_row : ℕ → ℕ → ℕ → Pane → List Piece
 name_row row column inside pane =
     let room = inside - length (unnamed_text pane.unnamed) in

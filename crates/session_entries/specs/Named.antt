@@ -167,7 +167,8 @@ named_by Barrier is_other left before = before
 named_by (Asked question) is_other left before = before
 named_by (Merges transfer pair names) is_other left before = before
 named_by (Moved pair) is_other left before =
-    paths_moved pair left ++ paths_below pair.target left ++ still_parts is_other (is_prefix pair.target) before
+    paths_moved pair left ++ paths_below pair.target left
+    ++ still_parts is_other (is_prefix pair.target) before
 named_by (Troubled trouble) is_other left before = before
 named_by (Ended ending part) is_other left before = before
 

@@ -1,6 +1,6 @@
 -- What the other devices do with what they hold: keys that come, bytes that a screen was
 -- given, commands that ran.
-use Rattle.std.specs.Prelude.{◌≡◌, ℕ, ◌<◌, ◌≤◌, List, [], ◌∷◌, ◌++◌, length}
+use Rattle.std.specs.Prelude.{◌≡◌, ℕ, ◌<◌, ◌≤◌, Bool, false, ◌==◌, List, [], ◌∷◌, ◌++◌, length}
 use Rattle.std.specs.Prelude.{take, drop, Option, Some, Result, Ok, Err}
 use Rattle.tree_trait.specs.declared.devices.Command.{Command}
 use Rattle.tree_trait.specs.declared.devices.RunOutcome.{RunOutcome}
@@ -20,6 +20,11 @@ pub record TakesPrefix (left : List ℕ) (room : List ℕ) (count : ℕ) (new : 
 abbrev pub HasTaken : List ℕ → List ℕ → Result ℕ SourceFault → Option (List ℕ) → Type 0
 HasTaken left room (Ok count) new = TakesPrefix left room count new
 HasTaken left room (Err fault) new = new ≡ Some left
+
+-- whether this byte is the next one of those that are left
+abbrev pub is_next : ℕ → List ℕ → Bool
+is_next byte [] = false
+is_next byte (next ∷ rest) = next == byte
 
 -- what a sink was given after a call; a failed one gave it a front of the bytes
 abbrev pub HasPut : {T : Type 0} → List ℕ → List ℕ → Result T SinkError → Option (List ℕ) → Type 0

@@ -2,7 +2,7 @@
 //! commands, and the clock.
 ghost use Rattle.std.specs.Prelude.{◌≡◌, ℕ, ◌≤◌, List, length, Option, None, IfOk};
 ghost use Rattle.tree_trait.specs.Answers.{HasCause, IfKnown};
-ghost use Rattle.tree_trait.specs.Devices.{HasTaken, HasPut, HasRun};
+ghost use Rattle.tree_trait.specs.Devices.{HasTaken, is_next, HasPut, HasRun};
 ghost use Rattle.tree_trait.specs.declared.devices.Command.{Command};
 
 use mc_text::{Bytes, Path, Text};
@@ -81,6 +81,13 @@ pub trait Source {
         ensures in_room { IfOk result (λ count. count ≤ length into.old) }
         ensures cause { HasCause (record {}) (fault_count self.old) (fault_count self.new) result };
 
+    /// Whether the byte that a call of `take` would give at once is this one. It takes nothing, and
+    /// doesn't wait.
+    fn next_is(&mut self, byte: u8) -> bool
+        ensures answer { IfKnown (left self.old) (λ bytes. result ≡ is_next byte bytes) }
+        ensures stays { left self.new ≡ left self.old }
+        ensures counts { fault_count self.new ≡ fault_count self.old };
+
     /// How often the source has failed. It stays at its last value.
     fn faults(&self) -> u64
         ensures { result ≡ fault_count self.now };
@@ -100,6 +107,11 @@ pub trait Sink {
             HasPut before bytes.now result (given self.new)) }
         ensures stays_unknown { given self.old ≡ None → given self.new ≡ None }
         ensures cause { HasCause SinkError.Fault (fault_count self.old) (fault_count self.new) result };
+
+    /// How many lines and columns the screen has now, where it says so. It puts nothing.
+    fn size(&mut self) -> Option<(u16, u16)>
+        ensures stays { given self.new ≡ given self.old }
+        ensures counts { fault_count self.new ≡ fault_count self.old };
 
     /// How often the sink has failed. It stays at its last value.
     fn faults(&self) -> u64

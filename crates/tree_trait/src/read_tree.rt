@@ -20,7 +20,7 @@ pub trait ReadTree {
     /// How often the tree has failed.
     ghost fault_count: { Self → ℕ };
 
-    /// The changing calls that were made on it, and what each answered, the newest first. Each tree tells this.
+    /// The changing calls that were made on it, and what each answered, the newest first. Each tree tells it.
     ghost answered: { Self → List Answered };
 
     /// What stands at a path: a link is not followed.
