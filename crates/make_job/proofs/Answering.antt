@@ -18,8 +18,9 @@ use Rattle.make_job.proofs.MakingRuns.{sync_call}
 
 module _ (m : Making) (before after : List Answered) (did : Did) where
   -- the thing was made
-  pub answered_made : did ≡ Made m.path → after ≡ with_answer (making_call m.thing m.path) (Ok tt) before → MakingAnswered m did before after
-  answered_made is told = subst (λ d. MakingAnswered m d before after) (sym is) told
+  pub answered_made : (call : Call) → did ≡ Made m.path → call ≡ making_call m.thing m.path → after ≡ with_answer call (Ok tt) before → MakingAnswered m did before after
+  answered_made call is made told =
+      subst (λ d. MakingAnswered m d before after) (sym is) (told ∙ ap (λ c. with_answer c (Ok tt) before) made)
 
   -- the folder was synced
   pub answered_synced : (folder : Route) → did ≡ Barrier → parent_of m.path ≡ Some folder → after ≡ with_answer (SyncFolder folder) (Ok tt) before → MakingAnswered m did before after

@@ -1,5 +1,5 @@
 -- The folder that holds it joins the dirty ones before the thing is made, and stays there till its sync.
-use Rattle.std.proofs.Common.{ap, refl, sym, ◌∙◌}
+use Rattle.std.proofs.Common.{ap, refl, sym, ◌∙◌, false}
 use Rattle.job_reports.specs.declared.report.StepResult.{StepResult}
 use Rattle.job_reports.specs.declared.report.Did.TheVariants.{Troubled}
 use Rattle.job_reports.specs.Paths.{folder_of}

@@ -1,6 +1,5 @@
 -- Without memory no call was made; a thing that was made stands at the path; a refused call changed nothing.
-use Rattle.std.proofs.Common.{ap, sym, ◌∙◌, refl, arith, false, ◌≡◌, Some, Ok}
-use Rattle.tree_trait.specs.Answered.{with_answer}
+use Rattle.std.proofs.Common.{ap, sym, ◌∙◌, refl, arith, false, ◌≡◌, Some}
 use Rattle.tree_trait.specs.declared.calls.TreeError.TheVariants as refused
 use Rattle.job_reports.specs.declared.report.Did.TheVariants.{Made, Troubled}
 use Rattle.job_reports.specs.declared.report.StepResult.{StepResult}
@@ -49,8 +48,8 @@ returns-in_default-clause-answered g c =
 pub returns-in-Ok-make_at-clause-answered : goal.returns-in-Ok-make_at-clause-answered
 returns-in-Ok-make_at-clause-answered g c =
     let path_is : c.in-Ok.path ≡ c.args.self.now.path = c.in-Ok.ensures ∙ ap (λ (m : Making). m.path) c.self.view_is in
-    answered_made c.args.self.now _ _ c.with_call.result.did (ap (λ (s : StepResult). s.did) c.with_call.ensures ∙ ap Made path_is)
-    (c.in-Ok-make_at.ensures.told ∙ ap (λ (m : Making). with_answer (making_call m.thing m.path) (Ok tt) _) c.self.view_is)
+    answered_made c.args.self.now _ _ c.with_call.result.did (making_call c.self.inside.thing c.self.inside.path) (ap (λ (s : StepResult). s.did) c.with_call.ensures ∙ ap Made path_is)
+    (ap (λ (m : Making). making_call m.thing m.path) c.self.view_is) c.in-Ok-make_at.ensures.told
 
 pub returns-in-Err-clause-answered : goal.returns-in-Err-clause-answered
 returns-in-Err-clause-answered g c =
