@@ -1,4 +1,5 @@
 pub mod BoxKeys
+pub mod PathLines
 pub mod BoxLines
 pub mod Causes
 pub mod RefusalWords

@@ -6,6 +6,7 @@ mod carry;
 mod causes;
 mod chosen;
 mod message;
+mod path_lines;
 mod replies;
 
 pub use box_lines::{
@@ -16,6 +17,7 @@ pub use carry::Carry;
 pub use causes::{cause_text, resolve_text};
 pub use chosen::Chosen;
 pub use message::Message;
+pub use path_lines::{columns_in_box, cut_in_front, path_line};
 pub use replies::{
     AnswerReply, DeleteReply, LineReply, ModeReply, answer_reply_to, closes_message,
     delete_reply_to, line_reply, mode_reply,
