@@ -1,5 +1,5 @@
 -- A box that is painted over a screen leaves its size as it was.
-use Rattle.std.proofs.Common.{◌≡◌, ℕ, List, length, refl, Option, Some, None}
+use Rattle.std.proofs.Common.{◌≡◌, ℕ, List, refl, Option, Some, None}
 use Rattle.key_screen.specs.Grids.{CellGrid}
 use Rattle.job_reports.specs.declared.row.JobRow.{JobRow}
 use Rattle.mc_dialogs.specs.Boxes.{columns_inside}
@@ -33,7 +33,7 @@ panel_columns_same (Options list) grid = box_columns_same grid (list_lines list)
 
 -- a box of a job
 job_lines_same : (asks : JobBoxState) (grid : CellGrid) → (with_job_box asks grid).lines ≡ grid.lines
-job_lines_same (DeleteBox paths) grid = box_lines_same grid (plain_lines (delete_lines (length paths)))
+job_lines_same (DeleteBox paths) grid = box_lines_same grid (plain_lines (delete_lines (columns_inside grid.columns) paths))
 job_lines_same (MaskBox how paths typed) grid = input_lines_same grid typed
 job_lines_same (TargetBox how paths mask typed) grid = input_lines_same grid typed
 job_lines_same (FolderBox typed) grid = input_lines_same grid typed
@@ -43,7 +43,7 @@ job_lines_same (NewModeBox paths asked) grid = box_lines_same grid (mode_lines a
 job_lines_same (AnswerBox waits) grid = box_lines_same grid (plain_lines (waits_lines (columns_inside grid.columns) waits))
 
 job_columns_same : (asks : JobBoxState) (grid : CellGrid) → (with_job_box asks grid).columns ≡ grid.columns
-job_columns_same (DeleteBox paths) grid = box_columns_same grid (plain_lines (delete_lines (length paths)))
+job_columns_same (DeleteBox paths) grid = box_columns_same grid (plain_lines (delete_lines (columns_inside grid.columns) paths))
 job_columns_same (MaskBox how paths typed) grid = input_columns_same grid typed
 job_columns_same (TargetBox how paths mask typed) grid = input_columns_same grid typed
 job_columns_same (FolderBox typed) grid = input_columns_same grid typed

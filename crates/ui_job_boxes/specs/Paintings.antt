@@ -1,5 +1,4 @@
 -- How the boxes are painted over a screen.
-use Rattle.std.specs.Prelude.{length}
 use Rattle.key_screen.specs.Grids.{CellGrid}
 use Rattle.mc_dialogs.specs.Boxes.{columns_inside, with_box}
 use Rattle.mc_dialogs.specs.InputField.{with_input}
@@ -10,7 +9,8 @@ use Rattle.ui_job_boxes.specs.JobBoxes.{JobBoxState, DeleteBox, MaskBox, TargetB
 use Rattle.ui_job_boxes.specs.JobBoxes.{LinkTextBox, LinkNameBox, NewModeBox, AnswerBox}
 
 abbrev pub with_job_box : JobBoxState → CellGrid → CellGrid
-with_job_box (DeleteBox paths) grid = with_box grid (plain_lines (delete_lines (length paths)))
+with_job_box (DeleteBox paths) grid =
+    with_box grid (plain_lines (delete_lines (columns_inside grid.columns) paths))
 with_job_box (MaskBox how paths typed) grid = with_input grid typed
 with_job_box (TargetBox how paths mask typed) grid = with_input grid typed
 with_job_box (FolderBox typed) grid = with_input grid typed

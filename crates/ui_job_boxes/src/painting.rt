@@ -19,7 +19,8 @@ impl JobBox {
     {
         match self {
             JobBox::Delete(chosen) => {
-                let lines = delete_lines(alloc, chosen.paths.as_slice().len())?;
+                let columns = columns_in_box(grid);
+                let lines = delete_lines(alloc, columns, chosen.paths.as_slice())?;
                 paint_lines(grid, alloc, lines)?;
                 Ok(())
             }

@@ -1,6 +1,7 @@
 -- The lines of the boxes that stand over the panels. Where a path stands in one, it is given how many columns
 -- a line has.
-use Rattle.std.specs.Prelude.{ℕ, ◌%◌, Bool, true, false, List, [], ◌∷◌, ◌++◌, Option, Some, None, codes}
+use Rattle.std.specs.Prelude.{ℕ, ◌%◌, Bool, true, false, List, [], ◌∷◌, ◌++◌, length}
+use Rattle.std.specs.Prelude.{Option, Some, None, codes}
 use Rattle.std.specs.Option.{option_map_or}
 use Rattle.std.specs.Fmt.{decimal}
 use Rattle.mc_text.specs.Routes.{Route, spelled_route}
@@ -25,6 +26,7 @@ use Rattle.ui_words.specs.declared.carry.Carry.TheVariants as carry
 use Rattle.ui_words.specs.declared.message.Message.{Message}
 use Rattle.ui_words.specs.declared.message.Message.TheVariants.{Refused, PartLeft, OutOfMemory, Help}
 use Rattle.ui_words.specs.PathLines.{path_line}
+use Rattle.ui_words.specs.Things.{called, things_line}
 use Rattle.ui_words.specs.RefusalWords.{refusal_words, trouble_words}
 
 -- the path that can't be read, if one is to blame
@@ -81,10 +83,10 @@ message_lines columns Help =
     ∷ codes "F6 move  F7 mkdir  F8 delete  F9 options  F10 quit"
     ∷ []
 
--- the lines of the box that asks whether to delete so many things
-abbrev pub delete_lines : ℕ → List (List ℕ)
-delete_lines count =
-    (codes "Delete " ++ (decimal count ++ codes " things?")) ∷ codes "y Delete  g Background  n No" ∷ []
+-- the lines of the box that asks whether to delete some things: their number, and the name of the first
+abbrev pub delete_lines : ℕ → List Route → List (List ℕ)
+delete_lines columns paths = (codes "Delete " ++ (decimal (length paths) ++ codes " things?"))
+    ∷ things_line columns paths ∷ codes "y Delete  g Background  n No" ∷ []
 
 -- the sizes of the source and of what stands at the target
 abbrev pub sizes_line : Question → List ℕ
@@ -113,9 +115,10 @@ abbrev pub waits_lines : ℕ → Waits → List (List ℕ)
 waits_lines columns (waits.Question question) = question_lines columns question
 waits_lines columns (waits.Trouble trouble) = trouble_lines columns trouble
 
--- the line that asks for the source mask, as it opens
-abbrev pub mask_line : InputState
-mask_line = record { title = codes "Source mask"; before = codes "*"; behind = [] }
+-- the line that asks for the source mask of some things, as it opens
+abbrev pub mask_line : List Route → InputState
+mask_line paths =
+    record { title = codes "Source mask for " ++ called paths; before = codes "*"; behind = [] }
 
 -- the line that asks for a new folder's path, as it opens
 abbrev pub folder_line : InputState

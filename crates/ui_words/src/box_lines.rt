@@ -17,6 +17,7 @@ use crate::carry::Carry;
 use crate::causes::{refusal_text, trouble_text};
 use crate::message::Message;
 use crate::path_lines::path_line;
+use crate::things::{called, things_line};
 use job_reports::{Question, Trouble, Waits};
 use mc_dialogs::{InputLine, ModeBox};
 use mc_text::{Name, NoMemory, Path, Rows, Text};
@@ -35,12 +36,14 @@ const KEYS: &str = "F1 help  F2 menu  F3 view  F4 edit  F5 copy";
 
 const MORE_KEYS: &str = "F6 move  F7 mkdir  F8 delete  F9 options  F10 quit";
 
-/// The lines of the box that asks whether to delete so many things.
-pub fn delete_lines(alloc: Global, count: usize) -> Result<Rows, NoMemory>
-    ensures { IfOk result (λ lines. lines ≡ lines_of_deletion count) }
+/// The lines, of so many columns, of the box that asks whether to delete these things.
+pub fn delete_lines(alloc: Global, columns: usize, paths: &[Path]) -> Result<Rows, NoMemory>
+    ensures { IfOk result (λ lines. lines ≡ lines_of_deletion columns paths.now) }
 {
+    let count = paths.len();
     let mut lines = Rows::new(alloc);
     lines.push(Text(format!(in alloc; "Delete {count} things?")?))?;
+    lines.push(things_line(alloc, columns, paths)?)?;
     lines.push(Text::from_str(alloc, "y Delete  g Background  n No")?)?;
     Ok(lines)
 }
@@ -226,11 +229,13 @@ fn help_lines(alloc: Global, columns: usize) -> Result<Rows, NoMemory>
     Ok(lines)
 }
 
-/// The line that asks for the source mask.
-pub fn mask_line(alloc: Global) -> Result<InputLine, NoMemory>
-    ensures { IfOk result (λ line. line ≡ line_of_mask) }
+/// The line that asks for the source mask of these things.
+pub fn mask_line(alloc: Global, paths: &[Path]) -> Result<InputLine, NoMemory>
+    ensures { IfOk result (λ line. line ≡ line_of_mask paths.now) }
 {
-    InputLine::new(alloc, "Source mask", "*")
+    let mut title = String::from_str(alloc, "Source mask for ")?;
+    title.push_str(called(alloc, paths)?.as_str())?;
+    InputLine::new(alloc, title.as_str(), "*")
 }
 
 /// The line that asks where things are to be copied or moved to, while the other panel shows this folder.

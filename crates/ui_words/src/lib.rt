@@ -8,6 +8,7 @@ mod chosen;
 mod message;
 mod path_lines;
 mod replies;
+mod things;
 
 pub use box_lines::{
     delete_lines, folder_line, link_name_line, link_text_line, mask_line, message_lines, mode_box,
