@@ -107,7 +107,8 @@ trouble_letter_words false = codes "r Retry  s Skip  a Skip all  b Abort"
 
 -- the lines of a trouble's box; the path's is empty where there is none
 abbrev pub trouble_lines : ℕ → Trouble → List (List ℕ)
-trouble_lines columns trouble = trouble_words trouble.cause ∷ option_map_or (path_line columns) trouble.path []
+trouble_lines columns trouble =
+    trouble_words trouble.cause ∷ option_map_or (path_line columns) trouble.path []
     ∷ trouble_letter_words trouble.barrier ∷ []
 
 -- the lines of the box that tells what a job waits with

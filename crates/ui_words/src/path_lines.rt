@@ -1,10 +1,12 @@
 //! A path in a line of a box.
-ghost use Rattle.std.specs.Prelude.{◌≡◌, ◌++◌, true, string_bytes, IfOk, OnOk};
+ghost use Rattle.std.specs.Prelude.{◌≡◌, ◌++◌, [], true, if◌then◌else◌};
+ghost use Rattle.std.specs.Prelude.{string_bytes, IfOk, OnOk};
 ghost use Rattle.std.specs.List.{concat};
 ghost use Rattle.unicode_segmentation.specs.Grapheme.{graphemes};
 ghost use Rattle.mc_text.specs.Fit.{cluster_columns};
 ghost use Rattle.mc_dialogs.specs.Boxes.{columns_inside};
-ghost use Rattle.ui_words.specs.PathLines.{cut_in_front as cut_in_front_of, end_within, path_line as line_of_path};
+ghost use Rattle.ui_words.specs.PathLines.{cut_in_front as cut_in_front_of, end_within};
+ghost use Rattle.ui_words.specs.PathLines.{path_line as line_of_path};
 
 use key_screen::Grid;
 use mc_text::{NoMemory, Path, Text, columns_of, drawn};
@@ -29,6 +31,7 @@ pub fn path_line(alloc: Global, path: &Path, columns: usize) -> Result<Text, NoM
 }
 
 /// A text that has room in so many columns, or `~` and as much of its end as has.
+#[tactic(auto, unfolding(crate::specs::PathLines::cut_in_front))]
 pub fn cut_in_front(alloc: Global, text: Text, columns: usize) -> Result<Text, NoMemory>
     ensures { IfOk result (λ line. line ≡ cut_in_front_of columns text) }
 {
@@ -42,17 +45,26 @@ pub fn cut_in_front(alloc: Global, text: Text, columns: usize) -> Result<Text, N
 }
 
 /// Puts as much of a text's end behind the line as has room in so many columns.
-#[tactic(auto, using(crate::proofs::Ends::end_that_fits))]
 fn push_end(line: &mut String, text: &str, room: usize) -> Result<(), AllocError>
     ensures { OnOk result
-        (string_bytes line.new ≡ string_bytes line.old ++ concat (end_within room (graphemes true text.now))) }
+        (string_bytes line.new
+        ≡ string_bytes line.old ++ concat (end_within room (graphemes true text.now))) }
 {
     let mut left = columns_of(text);
     for cluster in text.graphemes(true) {
-        if left <= room {
-            line.push_str(cluster)?;
-        }
+        push_where(line, cluster, left <= room)?;
         left -= columns_of_cluster(cluster);
+    }
+    Ok(())
+}
+
+/// Puts a cluster behind the line, if it has room there.
+fn push_where(line: &mut String, cluster: &str, has_room: bool) -> Result<(), AllocError>
+    ensures { OnOk result (string_bytes line.new
+        ≡ string_bytes line.old ++ (if has_room then cluster.now else [])) }
+{
+    if has_room {
+        line.push_str(cluster)?;
     }
     Ok(())
 }

@@ -2,8 +2,9 @@
 ghost use Rattle.std.specs.Prelude.{◌≡◌, ◌-◌, ◌++◌, codes, length, IfOk};
 ghost use Rattle.std.specs.Fmt.{decimal};
 ghost use Rattle.mc_text.specs.Drawn.{drawn_text};
-ghost use Rattle.ui_words.specs.Things.{called as called_by, fitted_beside as name_fitted, first_name as name_of_first};
-ghost use Rattle.ui_words.specs.Things.{name_of as name_of_path, others_words, things_line as line_of_things};
+ghost use Rattle.ui_words.specs.Things.{called as called_by, fitted_beside as name_fitted};
+ghost use Rattle.ui_words.specs.Things.{first_name as name_of_first, name_of as name_of_path};
+ghost use Rattle.ui_words.specs.Things.{others_words, things_line as line_of_things};
 
 use mc_text::{NoMemory, Path, Text, columns_of, drawn, fit};
 use std::alloc::Global;
@@ -53,6 +54,7 @@ fn more_text(alloc: Global, count: usize) -> Result<Text, NoMemory>
 }
 
 /// A name that has room in so many columns, or as much of it as has.
+#[tactic(auto, unfolding(crate::specs::Things::fitted_beside))]
 fn fitted_beside(alloc: Global, room: usize, name: &str) -> Result<Text, NoMemory>
     ensures { IfOk result (λ text. text ≡ name_fitted room name.now) }
 {
