@@ -16,6 +16,11 @@ def cut(text, columns):
     return text.ljust(columns) if len(text) <= columns else text[: columns - 1] + "~"
 
 
+def path_line(path, columns):
+    """A path in a line of so many columns: where it is wider, a tilde and as much of its end as fits."""
+    return path if len(path) <= columns else "~" + path[len(path) - columns + 1 :]
+
+
 # The heading of the columns; the first row of a folder that isn't the root; and a time that is told by its year.
 HEADING = (" ", "Name", "Size   ", "Modify time ")
 PARENT = ("/", "..", "UP--DIR", " " * 12)
@@ -61,11 +66,12 @@ def page(lines, columns, title, text):
 
 
 def with_box(rows, box):
-    """The same with the lines of a box over it, in the middle."""
+    """The same with the lines of a box over it, in the middle. A line that begins with a slash is a path."""
     lines, columns = len(rows), len(rows[0])
     inside = min(columns - 4, 60)
     edge = "+" + "-" * (inside + 2) + "+"
-    painted = [edge] + ["| " + cut(line, inside) + " |" for line in box] + [edge]
+    fitted = [path_line(line, inside) if line.startswith("/") else line for line in box]
+    painted = [edge] + ["| " + cut(line, inside) + " |" for line in fitted] + [edge]
     first = (lines - len(painted)) // 2
     start = (columns - inside - 4) // 2
     rows = list(rows)

@@ -187,7 +187,7 @@ def check_copied_folders(program, base, check):
     before = things_at(top)
     status, told, same = run(program, [source, target], [DOWN, F5, ESCAPE, F5, ENTER, ESCAPE, F10])
     asks, shut_box = told.screens[2:4]
-    check("F5 on a folder asks for the mask, and each box can be shut", status == 0 and same and asks.rows() == with_box(told.screens[1].rows(), ["Source mask", "*"]) and shut_box.rows() == told.screens[1].rows() and os.listdir(target) == [])
+    check("F5 on a folder asks for the mask, and each box can be shut", status == 0 and same and asks.rows() == with_box(told.screens[1].rows(), ["Source mask for top", "*"]) and shut_box.rows() == told.screens[1].rows() and os.listdir(target) == [])
     status, _, same = run(program, [source, target], COPY + [F10])
     check("a folder is copied with all that lies in it", status == 0 and same and os.listdir(target) == ["top"] and things_at(os.path.join(target, "top")) == before)
     check("and stays as it was", things_at(source)[1] == {"top": before})

@@ -40,7 +40,7 @@ def check_moved_files(program, base, check):
     before = things_in(source)
     status, told, same = run(program, [source, target], MOVE + [F10])
     plain, moved = told.screens[1], told.screens[-1]
-    check("F6 asks for the mask, then for the destination", shows(told, plain, ["Source mask", "*"]) and shows(told, plain, ["Move to", target + "/"]))
+    check("F6 asks for the mask, then for the destination", shows(told, plain, ["Source mask for x", "*"]) and shows(told, plain, ["Move to", target + "/"]))
     check("a file is moved, and is the same file still", status == 0 and same and things_in(source) == {} and things_in(target) == before)
     check("the panel shows that it is gone", [row[:4].rstrip() for row in left_panel(moved)[1]] == ["/.."])
 

@@ -39,10 +39,10 @@ def check_frames(program, base, check):
         looks = lambda screen: [screen.looks(row + 1) for row in range(size[0])]
         check(f"{what} the opening frame stands", opening.rows() == wanted(size, "..") and looks(opening) == half_reverse(size[0], 3, size[1]))
         check(f"{what} Down moves the cursor", moved.rows() == wanted(size, "a") and looks(moved) == half_reverse(size[0], 4, size[1]))
-        box = ["Delete 1 things?", "y Delete  g Background  n No"]
+        box = ["Delete 1 things?", "a", "y Delete  g Background  n No"]
         check(f"{what} F8 asks", asks.rows() == with_box(wanted(size, "a"), box))
         check(f"{what} Escape shuts the box", shut.rows() == moved.rows() and looks(shut) == looks(moved))
-        check(f"{what} F5 asks for the mask", mask.rows() == with_box(wanted(size, "a"), ["Source mask", "*"]))
+        check(f"{what} F5 asks for the mask", mask.rows() == with_box(wanted(size, "a"), ["Source mask for a", "*"]))
         check(f"{what} all that is written is read", all(not screen.unread for screen in screens))
 
     for surroundings, size in [({"LINES": "9", "COLUMNS": "80"}, (24, 80)), ({"LINES": "10", "COLUMNS": "40"}, (10, 40))]:
@@ -158,6 +158,14 @@ def check_find(program, base, check):
     check("each path below is listed once", found == with_box(opened, ["Found 5"] + below))
     inside = [PARENT, file_row("needle", 4)]
     check("Enter goes to the path's folder, the cursor on its name", went == frame(*size, (deep, inside, "needle"), (deep, inside, "..")))
+    twin = "in/" + "deep-" * 14
+    os.makedirs(os.path.join(folder, twin))
+    for name in ("one", "other"):
+        open(os.path.join(folder, twin, name), "w").close()
+    status, deeper, _ = run(program, [folder, deep], [FIND, ENTER, EMPTY + b"o*", ENTER, ENTER, F10, F10], size)
+    opened, *_, listed, _ = [screen.rows() for screen in deeper.screens]
+    check("two files deep in one folder differ in the list", listed == with_box(opened, ["Found 2"] + [os.path.join(folder, twin, name) for name in ("one", "other")]))
+    shutil.rmtree(os.path.join(folder, twin))
     check("the current path is in reverse", told.screens[4].looks(11)[10:70] == "r" * 60)
 
     status, told, _ = run(program, [folder, deep], [FIND, ENTER, EMPTY + b"*.c", ENTER, b"needle", ENTER, b"s", ESCAPE, F10], size)

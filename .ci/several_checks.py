@@ -87,7 +87,7 @@ def check_several_things(program, base, check):
     tag = [DOWN, INSERT, INSERT, DOWN, INSERT]  # the folder, the first file and the link
     status, told, _ = run(program, [folder, base], tag + [F8, b"n", F10])
     before, asks = told.screens[5:7]
-    check("F8 asks whether to delete so many things", asks.rows() == with_box(before.rows(), ["Delete 3 things?", "y Delete  g Background  n No"]))
+    check("F8 asks whether to delete so many things", asks.rows() == with_box(before.rows(), ["Delete 3 things?", "d and 2 more", "y Delete  g Background  n No"]))
     check("and `n` deletes none", status == 0 and sorted(os.listdir(folder)) == ["a", "b", "d", "l"])
     status, _, same = run(program, [folder, base], tag + [F8, b"y", F10])
     check("all that is tagged is deleted, and nothing else", status == 0 and same and os.listdir(folder) == ["b"])

@@ -1,7 +1,8 @@
 -- A box that is painted over a screen leaves its size as it was.
-use Rattle.std.proofs.Common.{◌≡◌, ℕ, List, length, refl, Option, Some, None}
+use Rattle.std.proofs.Common.{◌≡◌, ℕ, List, refl, Option, Some, None}
 use Rattle.key_screen.specs.Grids.{CellGrid}
 use Rattle.job_reports.specs.declared.row.JobRow.{JobRow}
+use Rattle.mc_dialogs.specs.Boxes.{columns_inside}
 use Rattle.mc_dialogs.specs.ListKeys.{list_lines}
 use Rattle.mc_dialogs.specs.ModeKeys.{mode_lines}
 use Rattle.mc_dialogs.specs.QuestionKeys.{plain_lines}
@@ -32,32 +33,32 @@ panel_columns_same (Options list) grid = box_columns_same grid (list_lines list)
 
 -- a box of a job
 job_lines_same : (asks : JobBoxState) (grid : CellGrid) → (with_job_box asks grid).lines ≡ grid.lines
-job_lines_same (DeleteBox paths) grid = box_lines_same grid (plain_lines (delete_lines (length paths)))
+job_lines_same (DeleteBox paths) grid = box_lines_same grid (plain_lines (delete_lines (columns_inside grid.columns) paths))
 job_lines_same (MaskBox how paths typed) grid = input_lines_same grid typed
 job_lines_same (TargetBox how paths mask typed) grid = input_lines_same grid typed
 job_lines_same (FolderBox typed) grid = input_lines_same grid typed
 job_lines_same (LinkTextBox typed) grid = input_lines_same grid typed
 job_lines_same (LinkNameBox text typed) grid = input_lines_same grid typed
 job_lines_same (NewModeBox paths asked) grid = box_lines_same grid (mode_lines asked)
-job_lines_same (AnswerBox waits) grid = box_lines_same grid (plain_lines (waits_lines waits))
+job_lines_same (AnswerBox waits) grid = box_lines_same grid (plain_lines (waits_lines (columns_inside grid.columns) waits))
 
 job_columns_same : (asks : JobBoxState) (grid : CellGrid) → (with_job_box asks grid).columns ≡ grid.columns
-job_columns_same (DeleteBox paths) grid = box_columns_same grid (plain_lines (delete_lines (length paths)))
+job_columns_same (DeleteBox paths) grid = box_columns_same grid (plain_lines (delete_lines (columns_inside grid.columns) paths))
 job_columns_same (MaskBox how paths typed) grid = input_columns_same grid typed
 job_columns_same (TargetBox how paths mask typed) grid = input_columns_same grid typed
 job_columns_same (FolderBox typed) grid = input_columns_same grid typed
 job_columns_same (LinkTextBox typed) grid = input_columns_same grid typed
 job_columns_same (LinkNameBox text typed) grid = input_columns_same grid typed
 job_columns_same (NewModeBox paths asked) grid = box_columns_same grid (mode_lines asked)
-job_columns_same (AnswerBox waits) grid = box_columns_same grid (plain_lines (waits_lines waits))
+job_columns_same (AnswerBox waits) grid = box_columns_same grid (plain_lines (waits_lines (columns_inside grid.columns) waits))
 
 -- the line that asks what is sought, or the list of what was found
 painted_lines_same : (asking : Option Asking) (page : ℕ) (listing : ListingState) (grid : CellGrid) → (painted_search asking page listing grid).lines ≡ grid.lines
-painted_lines_same None page listing grid = box_lines_same grid (found_lines page listing)
+painted_lines_same None page listing grid = box_lines_same grid (found_lines (columns_inside grid.columns) page listing)
 painted_lines_same (Some asking) page listing grid = input_lines_same grid asking.line
 
 painted_columns_same : (asking : Option Asking) (page : ℕ) (listing : ListingState) (grid : CellGrid) → (painted_search asking page listing grid).columns ≡ grid.columns
-painted_columns_same None page listing grid = box_columns_same grid (found_lines page listing)
+painted_columns_same None page listing grid = box_columns_same grid (found_lines (columns_inside grid.columns) page listing)
 painted_columns_same (Some asking) page listing grid = input_columns_same grid asking.line
 
 find_lines_same : (find : FindScreen) (grid : CellGrid) → (with_find find grid).lines ≡ grid.lines

@@ -7,7 +7,7 @@ use Rattle.job_reports.specs.declared.row.JobState.TheVariants as state
 use Rattle.key_screen.specs.Grids.{CellGrid}
 use Rattle.screen_frame.specs.declared.jobs_line.JobCounts.{JobCounts}
 use Rattle.screen_frame.specs.Frames.{panels_frame}
-use Rattle.mc_dialogs.specs.Boxes.{with_box}
+use Rattle.mc_dialogs.specs.Boxes.{columns_inside, with_box}
 use Rattle.mc_dialogs.specs.QuestionKeys.{plain_lines}
 use Rattle.ui_words.specs.declared.message.Message.{Message}
 use Rattle.ui_words.specs.BoxLines.{message_lines}
@@ -44,7 +44,8 @@ with_over (JobsBox list) rows grid = with_jobs rows list grid
 -- and the message over all
 abbrev pub with_message : Option Message → CellGrid → CellGrid
 with_message None grid = grid
-with_message (Some message) grid = with_box grid (plain_lines (message_lines message))
+with_message (Some message) grid =
+    with_box grid (plain_lines (message_lines (columns_inside grid.columns) message))
 
 -- the frame of the panels, and of what stands over them, while these jobs are live
 unfoldable pub frame_below : Screen → List JobRow → CellGrid

@@ -19,7 +19,7 @@ use mc_dialogs::{paint_box, plain_lines};
 use mc_text::{NoMemory, Rows};
 use screen_frame::paint_panels;
 use std::alloc::Global;
-use ui_words::{Message, message_lines};
+use ui_words::{Message, columns_in_box, message_lines};
 
 impl Ui {
     /// The frame of the screen while these jobs are live. It takes the time of the cells and texts on the
@@ -112,7 +112,10 @@ fn paint_message(grid: &mut Grid, alloc: Global, message: &Option<Message>) -> R
 {
     match message {
         None => Ok(()),
-        Some(message) => paint_lines(grid, alloc, message_lines(alloc, message)?),
+        Some(message) => {
+            let lines = message_lines(alloc, columns_in_box(grid), message)?;
+            paint_lines(grid, alloc, lines)
+        }
     }
 }
 

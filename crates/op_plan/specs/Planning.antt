@@ -51,12 +51,13 @@ abbrev pub placed_there : Option (List GlobPart) → List Route → Route → Re
 placed_there pattern sources folder =
     and_then (or_bad_mask (names_for pattern (Star ∷ []) sources)) (λ names. pairs_into folder sources names)
 
--- each source under the name that the mask makes of its own, in the folder that the front leads to
+-- each source under the name that the mask makes of its own, in the folder that the front leads to, which is
+-- looked for before the names are made
 abbrev pub placed_masked : FileSystem → Option (List GlobPart) → List Route → List MaskPiece → Route → List ℕ
     → Result (List Pair) PlanError
 placed_masked s pattern sources mask from prefix =
-    and_then (or_bad_mask (names_for pattern mask sources)) (λ names.
-    and_then (folder_at s from prefix) (λ folder. pairs_into folder sources names))
+    and_then (folder_at s from prefix) (λ folder.
+    and_then (or_bad_mask (names_for pattern mask sources)) (λ names. pairs_into folder sources names))
 
 -- the pairs of a copy or a move
 abbrev pub pairs_of : FileSystem → List Route → List ℕ → Route → List ℕ → Result (List Pair) PlanError

@@ -244,8 +244,8 @@ fn plan_masked<T: ReadTree>(
     ensures sources { IfOk result (λ pairs. sources_in pairs ≡ sources) }
     ensures placed { IfOk result (ArePlaced pattern.now mask.now) }
 {
-    let names = names_for(alloc, pattern, mask, sources.as_slice())?;
     let folder = folder_at(alloc, tree, from, front)?;
+    let names = names_for(alloc, pattern, mask, sources.as_slice())?;
     pairs_into(alloc, &folder, sources, names.as_slice())
 }
 

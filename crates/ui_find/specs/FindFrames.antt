@@ -3,12 +3,12 @@
 use Rattle.std.specs.Prelude.{ℕ, Bool, ◌==◌, if◌then◌else◌, List, [], ◌++◌, length}
 use Rattle.std.specs.Prelude.{map, take, drop, Option, Some, None, is_some, codes}
 use Rattle.std.specs.Fmt.{decimal}
-use Rattle.mc_text.specs.Routes.{path_text}
 use Rattle.key_screen.specs.Grids.{CellGrid}
 use Rattle.mc_dialogs.specs.declared.frame.Line.{Line}
-use Rattle.mc_dialogs.specs.Boxes.{with_box}
+use Rattle.mc_dialogs.specs.Boxes.{columns_inside, with_box}
 use Rattle.mc_dialogs.specs.InputField.{with_input}
 use Rattle.mc_dialogs.specs.ListKeys.{titled_rows}
+use Rattle.ui_words.specs.PathLines.{path_line}
 use Rattle.ui_find.specs.declared.asking.Asking.{Asking}
 use Rattle.ui_find.specs.Tellings.{FindingsState}
 use Rattle.ui_find.specs.Listings.{ListingState}
@@ -35,14 +35,16 @@ searching_words searching = if searching then codes ", searching" else []
 abbrev pub list_title : ListingState → List ℕ
 list_title l = found_title l.findings ++ searching_words (is_some l.search)
 
--- its lines: the title, and so many paths from the first one shown on, the current one in reverse
-abbrev pub found_lines : ℕ → ListingState → List Line
-found_lines page l =
-    titled_rows (list_title l) l.first l.current (map path_text (take page (drop l.first l.findings.found)))
+-- its lines, of so many columns: the title, and so many paths from the first one shown on, the current one in
+-- reverse
+abbrev pub found_lines : ℕ → ℕ → ListingState → List Line
+found_lines columns page l = titled_rows (list_title l) l.first l.current
+    (map (path_line columns) (take page (drop l.first l.findings.found)))
 
 -- over a screen
 abbrev pub painted_search : Option Asking → ℕ → ListingState → CellGrid → CellGrid
-painted_search None page listing grid = with_box grid (found_lines page listing)
+painted_search None page listing grid =
+    with_box grid (found_lines (columns_inside grid.columns) page listing)
 painted_search (Some asking) page listing grid = with_input grid asking.line
 
 abbrev pub with_find : FindScreen → CellGrid → CellGrid

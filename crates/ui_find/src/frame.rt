@@ -1,7 +1,7 @@
 //! What is painted over a screen.
 ghost use Rattle.std.specs.Prelude.{◌≡◌, ◌<◌, ◌^◌, map, IfOk, OnOk};
-ghost use Rattle.mc_text.specs.Routes.{path_text};
-ghost use Rattle.mc_dialogs.specs.Boxes.{with_box};
+ghost use Rattle.mc_dialogs.specs.Boxes.{columns_inside, with_box};
+ghost use Rattle.ui_words.specs.PathLines.{path_line};
 ghost use Rattle.ui_find.specs.FindFrames.{found_lines, painted_search, with_find};
 
 use crate::asking::Asking;
@@ -13,6 +13,7 @@ use mc_dialogs::{paint_list, rows_from};
 use mc_text::{NoMemory, Path, Text};
 use std::alloc::Global;
 use std::convert::AsStr;
+use ui_words::{columns_in_box, path_line};
 
 impl FindMode {
     /// Paints it over a screen: the line that asks, or the list. It reads no tree, and takes the time of
@@ -56,11 +57,12 @@ fn paint_found(
     listing: &Listing,
 ) -> Result<(), NoMemory>
     requires { page < 2 ^ 16 }
-    ensures { OnOk result (grid.new ≡ with_box grid.old (found_lines page listing.now)) }
+    ensures { OnOk result
+        (grid.new ≡ with_box grid.old (found_lines (columns_inside grid.old.columns) page listing.now)) }
 {
     let title = list_title(alloc, listing)?;
     let shown = rows_from(listing.findings().found(), listing.first(), page);
-    let rows = path_texts(alloc, shown)?;
+    let rows = path_rows(alloc, columns_in_box(grid), shown)?;
     paint_list(
         grid,
         alloc,
@@ -71,13 +73,13 @@ fn paint_found(
     )
 }
 
-/// Some paths as they are written.
-fn path_texts(alloc: Global, paths: &[Path]) -> Result<Vec<Text>, NoMemory>
-    ensures { IfOk result (λ texts. texts.items ≡ map path_text paths.now) }
+/// Some paths in rows of so many columns.
+fn path_rows(alloc: Global, columns: usize, paths: &[Path]) -> Result<Vec<Text>, NoMemory>
+    ensures { IfOk result (λ rows. rows.items ≡ map (path_line columns) paths.now) }
 {
-    let mut texts = Vec::new(alloc);
+    let mut rows = Vec::new(alloc);
     for path in paths {
-        texts.push(path.text(alloc)?)?;
+        rows.push(path_line(alloc, path, columns)?)?;
     }
-    Ok(texts)
+    Ok(rows)
 }

@@ -11,7 +11,7 @@ use Rattle.ui_job_boxes.specs.JobBoxes.{JobBoxState, DeleteBox, MaskBox, NewMode
 -- the box that such a key opens on things, of which the first has this mode
 abbrev pub box_of : Opens → List Route → ℕ → JobBoxState
 box_of opens.Delete paths mode = DeleteBox paths
-box_of (opens.SourceMask how) paths mode = MaskBox how paths mask_line
+box_of (opens.SourceMask how) paths mode = MaskBox how paths (mask_line paths)
 box_of opens.Mode paths mode = NewModeBox paths (mode_box mode)
 
 -- what a link says at first that is asked for in a panel: the path of the thing under the cursor, or of the

@@ -21,7 +21,7 @@ impl JobBox {
         match opens {
             Opens::Delete => Ok(JobBox::Delete(chosen)),
             Opens::SourceMask(carry) => {
-                let line = mask_line(alloc)?;
+                let line = mask_line(alloc, chosen.paths.as_slice())?;
                 Ok(JobBox::SourceMask(carry, chosen, line))
             }
             Opens::Mode => Ok(JobBox::Mode(chosen, mode_box(alloc, mode)?)),

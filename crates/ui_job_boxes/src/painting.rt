@@ -10,7 +10,7 @@ use key_screen::Grid;
 use mc_dialogs::{paint_box, plain_lines};
 use mc_text::{NoMemory, Rows};
 use std::alloc::Global;
-use ui_words::{delete_lines, waits_lines};
+use ui_words::{columns_in_box, delete_lines, waits_lines};
 
 impl JobBox {
     /// Paints it over a screen. Where memory is wanting, a part of it may stand.
@@ -19,7 +19,8 @@ impl JobBox {
     {
         match self {
             JobBox::Delete(chosen) => {
-                let lines = delete_lines(alloc, chosen.paths.as_slice().len())?;
+                let columns = columns_in_box(grid);
+                let lines = delete_lines(alloc, columns, chosen.paths.as_slice())?;
                 paint_lines(grid, alloc, lines)?;
                 Ok(())
             }
@@ -48,7 +49,7 @@ impl JobBox {
                 Ok(())
             }
             JobBox::Answer(waits) => {
-                let lines = waits_lines(alloc, waits)?;
+                let lines = waits_lines(alloc, columns_in_box(grid), waits)?;
                 paint_lines(grid, alloc, lines)?;
                 Ok(())
             }

@@ -187,12 +187,12 @@ module _ (log : CallLog) (error : PlanError) where
     masked_cause : (pattern : Option (List GlobPart)) (mask : List MaskPiece) (from : Route) (prefix : List ℕ)
         → placed_masked (current log) pattern paths mask from prefix ≡ Err error → HasOwnCause log error
     masked_cause pattern mask from prefix h =
-        refused_in (HasOwnCause log error) (or_bad_mask (names_for pattern mask paths))
-        (λ names. and_then (folder_at (current log) from prefix) (λ folder. pairs_into folder paths names)) error h
-        (λ bad. mask_cause (names_for pattern mask paths) bad)
-        (λ names is h. refused_in (HasOwnCause log error) (folder_at (current log) from prefix) (λ folder. pairs_into folder paths names) error h
+        refused_in (HasOwnCause log error) (folder_at (current log) from prefix)
+        (λ folder. and_then (or_bad_mask (names_for pattern mask paths)) (λ names. pairs_into folder paths names)) error h
         (λ lost. nowhere from prefix (resolved_path (current log) FolderAlone from prefix) refl lost)
-        (λ folder is h. into_cause folder names h))
+        (λ folder is h. refused_in (HasOwnCause log error) (or_bad_mask (names_for pattern mask paths)) (λ names. pairs_into folder paths names) error h
+        (λ bad. mask_cause (names_for pattern mask paths) bad)
+        (λ names is h. into_cause folder names h))
 
     target_cause : (pattern : Option (List GlobPart)) (mask : List MaskPiece) (from : Route) (prefix : List ℕ) (folder : Option Route)
         → option_map_or (placed_there pattern paths) folder (placed_masked (current log) pattern paths mask from prefix) ≡ Err error

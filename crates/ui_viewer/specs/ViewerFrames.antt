@@ -2,7 +2,7 @@
 use Rattle.std.specs.Prelude.{ℕ, List, [], ◌∷◌, map, Option, Some, None, codes}
 use Rattle.key_screen.specs.declared.cells.Attr.TheVariants.{Plain}
 use Rattle.key_screen.specs.Grids.{CellGrid}
-use Rattle.mc_dialogs.specs.Boxes.{with_box}
+use Rattle.mc_dialogs.specs.Boxes.{columns_inside, with_box}
 use Rattle.mc_dialogs.specs.InputField.{with_input}
 use Rattle.mc_dialogs.specs.QuestionKeys.{plain_lines}
 use Rattle.screen_frame.specs.declared.key_bar.KeyBar.TheVariants.{Viewer}
@@ -13,16 +13,18 @@ use Rattle.mc_viewer.specs.declared.error.ViewError.{ViewError}
 use Rattle.mc_viewer.specs.declared.error.ViewError.TheVariants.{Tree, NotFound, BadPattern}
 use Rattle.mc_viewer.specs.declared.error.ViewError.TheVariants.{LineTooLong, Memory}
 use Rattle.ui_words.specs.Causes.{cause_words}
+use Rattle.ui_words.specs.PathLines.{cut_in_front}
 use Rattle.ui_viewer.specs.declared.asking.Asking.{Asking}
 use Rattle.ui_viewer.specs.ViewerScreens.{ViewerScreen}
 
--- the lines of a message: what is said, and of a refusal of the tree the file that it is said of
-abbrev pub message_lines : List ℕ → ViewError → List (List ℕ)
-message_lines title (Tree e) = cause_words e ∷ title ∷ []
-message_lines title NotFound = codes "not found" ∷ []
-message_lines title BadPattern = codes "bad pattern" ∷ []
-message_lines title (LineTooLong line) = codes "line too long" ∷ []
-message_lines title Memory = codes "out of memory" ∷ []
+-- the lines of a message, of so many columns: what is said, and of a refusal of the tree the file that it is
+-- said of
+abbrev pub message_lines : ℕ → List ℕ → ViewError → List (List ℕ)
+message_lines columns title (Tree e) = cause_words e ∷ cut_in_front columns title ∷ []
+message_lines columns title NotFound = codes "not found" ∷ []
+message_lines columns title BadPattern = codes "bad pattern" ∷ []
+message_lines columns title (LineTooLong line) = codes "line too long" ∷ []
+message_lines columns title Memory = codes "out of memory" ∷ []
 
 -- a row of the page: its text, from the first column on
 abbrev pub page_row : List ℕ → List Run
@@ -40,7 +42,8 @@ with_asking (Some asking) grid = with_input grid asking.line
 -- and the message over all
 abbrev pub with_message : List ℕ → Option ViewError → CellGrid → CellGrid
 with_message title None grid = grid
-with_message title (Some why) grid = with_box grid (plain_lines (message_lines title why))
+with_message title (Some why) grid =
+    with_box grid (plain_lines (message_lines (columns_inside grid.columns) title why))
 
 -- the frame of a screen of this size: the page has the rows as they were read last
 unfoldable pub frame_of : ℕ → ℕ → ViewerScreen → CellGrid

@@ -15,6 +15,7 @@ use mc_text::{NoMemory, Rows, Text};
 use mc_viewer::ViewError;
 use screen_frame::{KeyBar, Page, PageRow, PageRows, Run, paint_page};
 use std::alloc::Global;
+use ui_words::columns_in_box;
 
 impl ViewerMode {
     /// The frame of a screen of so many lines and columns. It reads no tree, and takes the time of the
@@ -100,7 +101,10 @@ fn paint_message(
 {
     match refused {
         None => Ok(()),
-        Some(why) => paint_lines(grid, alloc, message_lines(alloc, title, *why)?),
+        Some(why) => {
+            let lines = message_lines(alloc, columns_in_box(grid), title, *why)?;
+            paint_lines(grid, alloc, lines)
+        }
     }
 }
 

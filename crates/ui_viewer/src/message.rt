@@ -6,14 +6,20 @@ use mc_text::{NoMemory, Rows, Text};
 use mc_viewer::ViewError;
 use std::alloc::Global;
 use tree_trait::TreeError;
-use ui_words::cause_text;
+use ui_words::{cause_text, cut_in_front};
 
-/// The lines of a message: what is said, and of a refusal of the tree the file that it is said of.
-pub fn message_lines(alloc: Global, title: &Text, why: ViewError) -> Result<Rows, NoMemory>
-    ensures { IfOk result (λ lines. lines ≡ lines_of_message title.now why) }
+/// The lines of a message, of so many columns: what is said, and of a refusal of the tree the file that it is
+/// said of.
+pub fn message_lines(
+    alloc: Global,
+    columns: usize,
+    title: &Text,
+    why: ViewError,
+) -> Result<Rows, NoMemory>
+    ensures { IfOk result (λ lines. lines ≡ lines_of_message columns title.now why) }
 {
     match why {
-        ViewError::Tree(error) => refused_lines(alloc, title, error),
+        ViewError::Tree(error) => refused_lines(alloc, columns, title, error),
         ViewError::NotFound => words_alone(alloc, "not found"),
         ViewError::BadPattern => words_alone(alloc, "bad pattern"),
         ViewError::LineTooLong(_) => words_alone(alloc, "line too long"),
@@ -21,11 +27,16 @@ pub fn message_lines(alloc: Global, title: &Text, why: ViewError) -> Result<Rows
     }
 }
 
-fn refused_lines(alloc: Global, title: &Text, error: TreeError) -> Result<Rows, NoMemory>
-    ensures { IfOk result (λ lines. lines ≡ lines_of_message title.now (ViewError.Tree error)) }
+fn refused_lines(
+    alloc: Global,
+    columns: usize,
+    title: &Text,
+    error: TreeError,
+) -> Result<Rows, NoMemory>
+    ensures { IfOk result (λ lines. lines ≡ lines_of_message columns title.now (ViewError.Tree error)) }
 {
     let mut lines = words_alone(alloc, cause_text(error))?;
-    lines.push(title.copy(alloc)?)?;
+    lines.push(cut_in_front(alloc, title.copy(alloc)?, columns)?)?;
     Ok(lines)
 }
 

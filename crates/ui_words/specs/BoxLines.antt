@@ -1,8 +1,10 @@
--- The lines of the boxes that stand over the panels.
-use Rattle.std.specs.Prelude.{ℕ, ◌%◌, Bool, true, false, List, [], ◌∷◌, ◌++◌, Option, Some, None, codes}
+-- The lines of the boxes that stand over the panels. Where a path stands in one, it is given how many columns
+-- a line has.
+use Rattle.std.specs.Prelude.{ℕ, ◌%◌, Bool, true, false, List, [], ◌∷◌, ◌++◌, length}
+use Rattle.std.specs.Prelude.{Option, Some, None, codes}
 use Rattle.std.specs.Option.{option_map_or}
 use Rattle.std.specs.Fmt.{decimal}
-use Rattle.mc_text.specs.Routes.{Route, path_text, spelled_route}
+use Rattle.mc_text.specs.Routes.{Route, spelled_route}
 use Rattle.job_reports.specs.declared.question.Question.{Question}
 use Rattle.job_reports.specs.declared.report.Trouble.{Trouble}
 use Rattle.job_reports.specs.declared.waits.Waits.{Waits}
@@ -23,6 +25,8 @@ use Rattle.ui_words.specs.declared.carry.Carry.{Carry}
 use Rattle.ui_words.specs.declared.carry.Carry.TheVariants as carry
 use Rattle.ui_words.specs.declared.message.Message.{Message}
 use Rattle.ui_words.specs.declared.message.Message.TheVariants.{Refused, PartLeft, OutOfMemory, Help}
+use Rattle.ui_words.specs.PathLines.{path_line}
+use Rattle.ui_words.specs.Things.{called, things_line}
 use Rattle.ui_words.specs.RefusalWords.{refusal_words, trouble_words}
 
 -- the path that can't be read, if one is to blame
@@ -58,31 +62,31 @@ refusal_path (Begin error) = None
 refusal_path (Typed error) = None
 
 -- a line with a path, where there is one
-abbrev pub path_lines : Option Route → List (List ℕ)
-path_lines None = []
-path_lines (Some path) = path_text path ∷ []
+abbrev pub path_lines : ℕ → Option Route → List (List ℕ)
+path_lines columns None = []
+path_lines columns (Some path) = path_line columns path ∷ []
 
 -- the lines that tell of a part that is left, if one is
-abbrev pub part_lines : Option Route → List (List ℕ)
-part_lines None = []
-part_lines (Some path) = codes "part left" ∷ path_text path ∷ []
+abbrev pub part_lines : ℕ → Option Route → List (List ℕ)
+part_lines columns None = []
+part_lines columns (Some path) = codes "part left" ∷ path_line columns path ∷ []
 
 -- the lines of a message: what is said, and the path that it is said of
-abbrev pub message_lines : Message → List (List ℕ)
-message_lines (Refused refusal) = refusal_words refusal ∷ path_lines (refusal_path refusal)
-message_lines (PartLeft path) = part_lines (Some path)
-message_lines (OutOfMemory part) = codes "job ended: out of memory" ∷ part_lines part
-message_lines Help =
+abbrev pub message_lines : ℕ → Message → List (List ℕ)
+message_lines columns (Refused refusal) = refusal_words refusal ∷ path_lines columns (refusal_path refusal)
+message_lines columns (PartLeft path) = part_lines columns (Some path)
+message_lines columns (OutOfMemory part) = codes "job ended: out of memory" ∷ part_lines columns part
+message_lines columns Help =
     codes "usage: mc [-b] [-V] [-h] [-P FILE]"
     ∷ codes "       [-v FILE | -e FILE | --drill N | DIR1 [DIR2]]"
     ∷ codes "F1 help  F2 menu  F3 view  F4 edit  F5 copy"
     ∷ codes "F6 move  F7 mkdir  F8 delete  F9 options  F10 quit"
     ∷ []
 
--- the lines of the box that asks whether to delete so many things
-abbrev pub delete_lines : ℕ → List (List ℕ)
-delete_lines count =
-    (codes "Delete " ++ (decimal count ++ codes " things?")) ∷ codes "y Delete  g Background  n No" ∷ []
+-- the lines of the box that asks whether to delete some things: their number, and the name of the first
+abbrev pub delete_lines : ℕ → List Route → List (List ℕ)
+delete_lines columns paths = (codes "Delete " ++ (decimal (length paths) ++ codes " things?"))
+    ∷ things_line columns paths ∷ codes "y Delete  g Background  n No" ∷ []
 
 -- the sizes of the source and of what stands at the target
 abbrev pub sizes_line : Question → List ℕ
@@ -91,9 +95,9 @@ sizes_line question =
     ++ (codes " bytes, target " ++ (decimal question.target_size ++ codes " bytes")))
 
 -- the lines of a question's box: the target, both sizes, and the letters that answer, with their words
-abbrev pub question_lines : Question → List (List ℕ)
-question_lines question =
-    codes "Target exists" ∷ path_text question.target ∷ sizes_line question
+abbrev pub question_lines : ℕ → Question → List (List ℕ)
+question_lines columns question =
+    codes "Target exists" ∷ path_line columns question.target ∷ sizes_line question
     ∷ codes "y Yes  n No  a All  u Update" ∷ codes "o None  s Size differs  b Abort" ∷ []
 
 -- the letters that answer a trouble, with their words: at a barrier nothing can be skipped
@@ -102,18 +106,20 @@ trouble_letter_words true = codes "r Retry  b Abort"
 trouble_letter_words false = codes "r Retry  s Skip  a Skip all  b Abort"
 
 -- the lines of a trouble's box; the path's is empty where there is none
-abbrev pub trouble_lines : Trouble → List (List ℕ)
-trouble_lines trouble = trouble_words trouble.cause ∷ option_map_or path_text trouble.path []
+abbrev pub trouble_lines : ℕ → Trouble → List (List ℕ)
+trouble_lines columns trouble =
+    trouble_words trouble.cause ∷ option_map_or (path_line columns) trouble.path []
     ∷ trouble_letter_words trouble.barrier ∷ []
 
 -- the lines of the box that tells what a job waits with
-abbrev pub waits_lines : Waits → List (List ℕ)
-waits_lines (waits.Question question) = question_lines question
-waits_lines (waits.Trouble trouble) = trouble_lines trouble
+abbrev pub waits_lines : ℕ → Waits → List (List ℕ)
+waits_lines columns (waits.Question question) = question_lines columns question
+waits_lines columns (waits.Trouble trouble) = trouble_lines columns trouble
 
--- the line that asks for the source mask, as it opens
-abbrev pub mask_line : InputState
-mask_line = record { title = codes "Source mask"; before = codes "*"; behind = [] }
+-- the line that asks for the source mask of some things, as it opens
+abbrev pub mask_line : List Route → InputState
+mask_line paths =
+    record { title = codes "Source mask for " ++ called paths; before = codes "*"; behind = [] }
 
 -- the line that asks for a new folder's path, as it opens
 abbrev pub folder_line : InputState

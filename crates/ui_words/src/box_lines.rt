@@ -1,7 +1,6 @@
 //! The lines of the boxes.
 ghost use Rattle.std.specs.Prelude.{◌≡◌, ◌∷◌, ◌++◌, [], IfOk};
 ghost use Rattle.std.specs.Option.{option_map_or};
-ghost use Rattle.mc_text.specs.Routes.{path_text as path_text_of};
 ghost use Rattle.ui_words.specs.BoxLines.{delete_lines as lines_of_deletion, folder_line as line_of_folder};
 ghost use Rattle.ui_words.specs.BoxLines.{link_name_line as line_of_link_name};
 ghost use Rattle.ui_words.specs.BoxLines.{link_text_line as line_of_link_text, mask_line as line_of_mask};
@@ -12,10 +11,13 @@ ghost use Rattle.ui_words.specs.BoxLines.{target_line as line_of_target, target_
 ghost use Rattle.ui_words.specs.BoxLines.{target_title as title_of_target, thing_text as text_of_thing};
 ghost use Rattle.ui_words.specs.BoxLines.{trouble_letter_words, trouble_lines as lines_of_trouble};
 ghost use Rattle.ui_words.specs.BoxLines.{waits_lines as lines_of_waits};
+ghost use Rattle.ui_words.specs.PathLines.{path_line as line_of_path};
 
 use crate::carry::Carry;
 use crate::causes::{refusal_text, trouble_text};
 use crate::message::Message;
+use crate::path_lines::path_line;
+use crate::things::{called, things_line};
 use job_reports::{Question, Trouble, Waits};
 use mc_dialogs::{InputLine, ModeBox};
 use mc_text::{Name, NoMemory, Path, Rows, Text};
@@ -34,33 +36,35 @@ const KEYS: &str = "F1 help  F2 menu  F3 view  F4 edit  F5 copy";
 
 const MORE_KEYS: &str = "F6 move  F7 mkdir  F8 delete  F9 options  F10 quit";
 
-/// The lines of the box that asks whether to delete so many things.
-pub fn delete_lines(alloc: Global, count: usize) -> Result<Rows, NoMemory>
-    ensures { IfOk result (λ lines. lines ≡ lines_of_deletion count) }
+/// The lines, of so many columns, of the box that asks whether to delete these things.
+pub fn delete_lines(alloc: Global, columns: usize, paths: &[Path]) -> Result<Rows, NoMemory>
+    ensures { IfOk result (λ lines. lines ≡ lines_of_deletion columns paths.now) }
 {
+    let count = paths.len();
     let mut lines = Rows::new(alloc);
     lines.push(Text(format!(in alloc; "Delete {count} things?")?))?;
+    lines.push(things_line(alloc, columns, paths)?)?;
     lines.push(Text::from_str(alloc, "y Delete  g Background  n No")?)?;
     Ok(lines)
 }
 
-/// The lines of the box that tells what a job waits with.
-pub fn waits_lines(alloc: Global, waits: &Waits) -> Result<Rows, NoMemory>
-    ensures { IfOk result (λ lines. lines ≡ lines_of_waits waits.now) }
+/// The lines, of so many columns, of the box that tells what a job waits with.
+pub fn waits_lines(alloc: Global, columns: usize, waits: &Waits) -> Result<Rows, NoMemory>
+    ensures { IfOk result (λ lines. lines ≡ lines_of_waits columns waits.now) }
 {
     match waits {
-        Waits::Question(question) => question_lines(alloc, question),
-        Waits::Trouble(trouble) => trouble_lines(alloc, trouble),
+        Waits::Question(question) => question_lines(alloc, columns, question),
+        Waits::Trouble(trouble) => trouble_lines(alloc, columns, trouble),
     }
 }
 
 /// The lines of a question's box.
-fn question_lines(alloc: Global, question: &Question) -> Result<Rows, NoMemory>
-    ensures { IfOk result (λ lines. lines ≡ lines_of_question question.now) }
+fn question_lines(alloc: Global, columns: usize, question: &Question) -> Result<Rows, NoMemory>
+    ensures { IfOk result (λ lines. lines ≡ lines_of_question columns question.now) }
 {
     let mut lines = Rows::new(alloc);
     lines.push(Text::from_str(alloc, "Target exists")?)?;
-    lines.push(question.target.text(alloc)?)?;
+    lines.push(path_line(alloc, &question.target, columns)?)?;
     lines.push(sizes_line(alloc, question)?)?;
     lines.push(Text::from_str(alloc, "y Yes  n No  a All  u Update")?)?;
     lines.push(Text::from_str(alloc, "o None  s Size differs  b Abort")?)?;
@@ -77,12 +81,12 @@ fn sizes_line(alloc: Global, question: &Question) -> Result<Text, NoMemory>
 }
 
 /// The lines of a trouble's box; the path's is empty where there is none.
-fn trouble_lines(alloc: Global, trouble: &Trouble) -> Result<Rows, NoMemory>
-    ensures { IfOk result (λ lines. lines ≡ lines_of_trouble trouble.now) }
+fn trouble_lines(alloc: Global, columns: usize, trouble: &Trouble) -> Result<Rows, NoMemory>
+    ensures { IfOk result (λ lines. lines ≡ lines_of_trouble columns trouble.now) }
 {
     let mut lines = Rows::new(alloc);
     lines.push(trouble_text(alloc, trouble.cause)?)?;
-    lines.push(path_text(alloc, &trouble.path)?)?;
+    lines.push(line_or_none(alloc, columns, &trouble.path)?)?;
     lines.push(Text::from_str(alloc, letter_words(trouble.barrier))?)?;
     Ok(lines)
 }
@@ -98,68 +102,78 @@ fn letter_words(at_barrier: bool) -> &'static str
     }
 }
 
-/// The text of a path, or an empty one.
-fn path_text(alloc: Global, path: &Option<Path>) -> Result<Text, NoMemory>
-    ensures { IfOk result (λ text. text ≡ option_map_or path_text_of path.now []) }
+/// The line of a path, or an empty one.
+fn line_or_none(alloc: Global, columns: usize, path: &Option<Path>) -> Result<Text, NoMemory>
+    ensures { IfOk result (λ text. text ≡ option_map_or (line_of_path columns) path.now []) }
 {
     match path {
         None => Text::from_str(alloc, ""),
-        Some(path) => path.text(alloc),
+        Some(path) => path_line(alloc, path, columns),
     }
 }
 
-/// The lines of a message.
-pub fn message_lines(alloc: Global, message: &Message) -> Result<Rows, NoMemory>
-    ensures { IfOk result (λ lines. lines ≡ lines_of_message message.now) }
+/// The lines of a message, of so many columns.
+pub fn message_lines(alloc: Global, columns: usize, message: &Message) -> Result<Rows, NoMemory>
+    ensures { IfOk result (λ lines. lines ≡ lines_of_message columns message.now) }
 {
     match message {
-        Message::Refused(refusal) => refusal_lines(alloc, refusal),
-        Message::PartLeft(path) => part_lines(alloc, path),
-        Message::OutOfMemory(part) => memory_lines(alloc, part),
-        Message::Help => help_lines(alloc),
+        Message::Refused(refusal) => refusal_lines(alloc, columns, refusal),
+        Message::PartLeft(path) => part_lines(alloc, columns, path),
+        Message::OutOfMemory(part) => memory_lines(alloc, columns, part),
+        Message::Help => help_lines(alloc, columns),
     }
 }
 
 /// The words of a refusal, and the path that it speaks of, where it speaks of one.
-fn refusal_lines(alloc: Global, refusal: &Refusal) -> Result<Rows, NoMemory>
-    ensures { IfOk result (λ lines. lines ≡ lines_of_message (Message.Refused refusal.now)) }
+fn refusal_lines(alloc: Global, columns: usize, refusal: &Refusal) -> Result<Rows, NoMemory>
+    ensures { IfOk result (λ lines. lines ≡ lines_of_message columns (Message.Refused refusal.now)) }
 {
     let words = refusal_text(alloc, refusal)?;
     match refusal {
-        Refusal::Tree(path, _) => words_and_path(alloc, words, path),
-        Refusal::Read(path, _) => words_and_path(alloc, words, path),
-        Refusal::Resolve(error) => resolve_lines(alloc, words, error),
-        Refusal::Plan(error) => plan_lines(alloc, words, error),
+        Refusal::Tree(path, _) => words_and_path(alloc, columns, words, path),
+        Refusal::Read(path, _) => words_and_path(alloc, columns, words, path),
+        Refusal::Resolve(error) => resolve_lines(alloc, columns, words, error),
+        Refusal::Plan(error) => plan_lines(alloc, columns, words, error),
         Refusal::Begin(_) => words_alone(alloc, words),
         Refusal::Typed(_) => words_alone(alloc, words),
     }
 }
 
 /// Words, and the path that a plan was refused for: the first, where it was for two.
-fn plan_lines(alloc: Global, words: Text, error: &PlanError) -> Result<Rows, NoMemory>
-    ensures { IfOk result (λ lines. lines ≡ words ∷ path_lines (plan_path error.now)) }
+fn plan_lines(
+    alloc: Global,
+    columns: usize,
+    words: Text,
+    error: &PlanError,
+) -> Result<Rows, NoMemory>
+    ensures { IfOk result (λ lines. lines ≡ words ∷ path_lines columns (plan_path error.now)) }
 {
     match error {
         PlanError::NoSelection => words_alone(alloc, words),
         PlanError::TooLong => words_alone(alloc, words),
-        PlanError::Nested(first, _) => words_and_path(alloc, words, first),
-        PlanError::Source(path, _) => words_and_path(alloc, words, path),
+        PlanError::Nested(first, _) => words_and_path(alloc, columns, words, first),
+        PlanError::Source(path, _) => words_and_path(alloc, columns, words, path),
         PlanError::BadMask => words_alone(alloc, words),
-        PlanError::Target(error) => resolve_lines(alloc, words, error),
-        PlanError::TargetThere(path) => words_and_path(alloc, words, path),
-        PlanError::SameFile(path) => words_and_path(alloc, words, path),
-        PlanError::IntoItself(source, _) => words_and_path(alloc, words, source),
-        PlanError::TwoToOne(first, _) => words_and_path(alloc, words, first),
+        PlanError::Target(error) => resolve_lines(alloc, columns, words, error),
+        PlanError::TargetThere(path) => words_and_path(alloc, columns, words, path),
+        PlanError::SameFile(path) => words_and_path(alloc, columns, words, path),
+        PlanError::IntoItself(source, _) => words_and_path(alloc, columns, words, source),
+        PlanError::TwoToOne(first, _) => words_and_path(alloc, columns, words, first),
         PlanError::BadLinkText => words_alone(alloc, words),
     }
 }
 
 /// Words, and the path that can't be read, where one is to blame.
-fn resolve_lines(alloc: Global, words: Text, error: &ResolveError) -> Result<Rows, NoMemory>
-    ensures { IfOk result (λ lines. lines ≡ words ∷ path_lines (resolve_path error.now)) }
+fn resolve_lines(
+    alloc: Global,
+    columns: usize,
+    words: Text,
+    error: &ResolveError,
+) -> Result<Rows, NoMemory>
+    ensures { IfOk result (λ lines. lines ≡ words ∷ path_lines columns (resolve_path error.now)) }
 {
     match error {
-        ResolveError::Tree(path, _) => words_and_path(alloc, words, path),
+        ResolveError::Tree(path, _) => words_and_path(alloc, columns, words, path),
         ResolveError::TooManyLinks => words_alone(alloc, words),
         ResolveError::TooLong => words_alone(alloc, words),
         ResolveError::BadName => words_alone(alloc, words),
@@ -176,36 +190,36 @@ fn words_alone(alloc: Global, words: Text) -> Result<Rows, NoMemory>
     Ok(lines)
 }
 
-fn words_and_path(alloc: Global, words: Text, path: &Path) -> Result<Rows, NoMemory>
-    ensures { IfOk result (λ lines. lines ≡ words ∷ path_text_of path.now ∷ []) }
+fn words_and_path(alloc: Global, columns: usize, words: Text, path: &Path) -> Result<Rows, NoMemory>
+    ensures { IfOk result (λ lines. lines ≡ words ∷ line_of_path columns path.now ∷ []) }
 {
     let mut lines = Rows::new(alloc);
     lines.push(words)?;
-    lines.push(path.text(alloc)?)?;
+    lines.push(path_line(alloc, path, columns)?)?;
     Ok(lines)
 }
 
-fn part_lines(alloc: Global, path: &Path) -> Result<Rows, NoMemory>
-    ensures { IfOk result (λ lines. lines ≡ lines_of_message (Message.PartLeft path.now)) }
+fn part_lines(alloc: Global, columns: usize, path: &Path) -> Result<Rows, NoMemory>
+    ensures { IfOk result (λ lines. lines ≡ lines_of_message columns (Message.PartLeft path.now)) }
 {
-    words_and_path(alloc, Text::from_str(alloc, "part left")?, path)
+    words_and_path(alloc, columns, Text::from_str(alloc, "part left")?, path)
 }
 
 /// That a job ended since memory ran out, and the part that it left.
-fn memory_lines(alloc: Global, part: &Option<Path>) -> Result<Rows, NoMemory>
-    ensures { IfOk result (λ lines. lines ≡ lines_of_message (Message.OutOfMemory part.now)) }
+fn memory_lines(alloc: Global, columns: usize, part: &Option<Path>) -> Result<Rows, NoMemory>
+    ensures { IfOk result (λ lines. lines ≡ lines_of_message columns (Message.OutOfMemory part.now)) }
 {
     let mut lines = Rows::new(alloc);
     lines.push(Text::from_str(alloc, "job ended: out of memory")?)?;
     if let Some(path) = part {
         lines.push(Text::from_str(alloc, "part left")?)?;
-        lines.push(path.text(alloc)?)?;
+        lines.push(path_line(alloc, path, columns)?)?;
     }
     Ok(lines)
 }
 
-fn help_lines(alloc: Global) -> Result<Rows, NoMemory>
-    ensures { IfOk result (λ lines. lines ≡ lines_of_message Message.Help) }
+fn help_lines(alloc: Global, columns: usize) -> Result<Rows, NoMemory>
+    ensures { IfOk result (λ lines. lines ≡ lines_of_message columns Message.Help) }
 {
     let mut lines = Rows::new(alloc);
     lines.push(Text::from_str(alloc, USAGE)?)?;
@@ -215,11 +229,13 @@ fn help_lines(alloc: Global) -> Result<Rows, NoMemory>
     Ok(lines)
 }
 
-/// The line that asks for the source mask.
-pub fn mask_line(alloc: Global) -> Result<InputLine, NoMemory>
-    ensures { IfOk result (λ line. line ≡ line_of_mask) }
+/// The line that asks for the source mask of these things.
+pub fn mask_line(alloc: Global, paths: &[Path]) -> Result<InputLine, NoMemory>
+    ensures { IfOk result (λ line. line ≡ line_of_mask paths.now) }
 {
-    InputLine::new(alloc, "Source mask", "*")
+    let mut title = String::from_str(alloc, "Source mask for ")?;
+    title.push_str(called(alloc, paths)?.as_str())?;
+    InputLine::new(alloc, title.as_str(), "*")
 }
 
 /// The line that asks where things are to be copied or moved to, while the other panel shows this folder.
