@@ -5,6 +5,7 @@ use mc_text::{NoMemory, Path, PathError};
 use session_entries::Event;
 use session_log::History;
 use std::alloc::Global;
+use std::convert::AsStr;
 use std::io;
 
 /// What a session leaves to be told.
@@ -92,14 +93,23 @@ impl Remains {
 
     fn tell(&self, rt: &HostRuntime) -> io::Result<()> {
         for part in &self.parts {
-            let part = part.text(rt.alloc())?;
-            println!(rt; "mc: part left: {part}")?;
+            tell_path(rt, "part left", part)?;
         }
         for source in &self.short {
-            let source = source.text(rt.alloc())?;
-            println!(rt; "mc: out of memory: {source}")?;
+            tell_path(rt, "out of memory", source)?;
         }
         Ok(())
+    }
+}
+
+/// Tells what is said of a path, in a line.
+fn tell_path(rt: &HostRuntime, what: &str, path: &Path) -> io::Result<()> {
+    match path.text(rt.alloc()) {
+        Ok(text) => {
+            let path = text.as_str();
+            println!(rt; "mc: {what}: {path}")
+        }
+        Err(NoMemory) => Ok(()),
     }
 }
 
