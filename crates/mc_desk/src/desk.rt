@@ -96,9 +96,9 @@ impl<N: Tag, T: Tree, S: Sink, P: Spawner> Desk<N, T, S, P> {
     }
 
     /// Takes the next byte of the keyboard and works the keys that it completes; the reply is that of the
-    /// last. Each is drawn. While a search goes on it is that of C-c, which stops the search. Where it finds no memory before the byte is taken, nothing changes; each other
-    /// error closes the desk. `Wait` names the job that is due then. One that is closed, or whose end was
-    /// asked, takes no byte and answers `Quit`.
+    /// last. Each is drawn. While a search goes on the byte is that of C-c, which stops it. Where it finds no
+    /// memory before the byte is taken, nothing changes; each other error closes the desk. `Wait` names the
+    /// job that is due then. One that is closed, or whose end was asked, takes no byte and answers `Quit`.
     pub fn byte(&mut self, alloc: Global, byte: u8, now: u64) -> Result<DeskReply, DeskError>
         requires looked { self.old.tally.due ≡ None }
         requires sought { MayTake byte self.old }
@@ -134,10 +134,10 @@ impl<N: Tag, T: Tree, S: Sink, P: Spawner> Desk<N, T, S, P> {
         self.session.look(alloc)
     }
 
-    /// Makes steps of the search that goes on, to its end, or to where C-c waits in the source, or 50,000, and
-    /// draws the list as it then is. Of the source it is asked after each 1,000 steps whether that is the
-    /// next byte. Where no search goes on the desk stays as it is. Where memory is wanting for a step the desk
-    /// is closed, once what was found by then is drawn.
+    /// Makes steps of the search that goes on, to its end, or to where C-c waits in the source, or 50,000,
+    /// and draws the list as it then is. Of the source it is asked after each 1,000 steps whether that is
+    /// the next byte. Where no search goes on the desk stays as it is. Where memory is wanting for a step
+    /// the desk is closed, once what was found by then is drawn.
     pub fn seek<K: Source>(&mut self, alloc: Global, keys: &mut K) -> Result<(), DeskError>
         requires looked { self.old.tally.due ≡ None }
         ensures shows { OnOk result (self.new.tally.closed ≡ false → ShowsDesk self.new) }

@@ -125,9 +125,9 @@ impl<N: Tag, T: Tree, S: Sink, P: Spawner> Session<N, T, S, P> {
         Ok(())
     }
 
-    /// Makes steps of the search that goes on, to its end, or to where C-c waits in the source, or 50,000, and
-    /// draws. Where none goes on all stays as it is. Where memory is wanting for a step the session is closed,
-    /// once what was found by then is drawn.
+    /// Makes steps of the search that goes on, to its end, or to where C-c waits in the source, or 50,000,
+    /// and draws. Where none goes on all stays as it is. Where memory is wanting for a step the session is
+    /// closed, once what was found by then is drawn.
     pub fn seek<K: Source>(&mut self, alloc: Global, keys: &mut K) -> Result<(), DeskError>
         requires looked { self.old.tally.due ≡ None }
         requires uncut { IsUncut self.old }
