@@ -42,30 +42,8 @@ fn plant_twin_or_things(page: &mut Page, tree: &mut MemTree, scene: &str)
 {
     match scene.strip_prefix("empty twin, room for ") {
         Some(room) => plant_beside_mount(page, tree, room, "folder /s 755\nfolder /s/t 755"),
-        None => plant_files_or_things(page, tree, scene),
-    }
-}
-
-fn plant_files_or_things(page: &mut Page, tree: &mut MemTree, scene: &str)
-    requires { tree.old.log.changes ≡ [] }
-{
-    match scene.strip_prefix("files: ") {
-        Some(count) => plant_files(page, tree, number(count)),
         None => put_things::<FileThings>(page, tree, things_in(scene)),
     }
-}
-
-/// So many files in the folder `/n`, of which a search makes two steps each.
-fn plant_files(page: &mut Page, tree: &mut MemTree, count: usize)
-    requires { tree.old.log.changes ≡ [] }
-{
-    let mut lines = Page::new(page.alloc());
-    lines.put("folder /n 755");
-    for file in 0..count {
-        lines.tell(format_args!("\nfile /n/{file} 644 hi"));
-    }
-    page.need(lines.is_whole());
-    put_things::<FileThings>(page, tree, lines.text());
 }
 
 /// These things, in the folder `/s`, and the folder `/t` on a mount whose files may have so many bytes.

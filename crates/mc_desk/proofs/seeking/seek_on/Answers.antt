@@ -30,7 +30,7 @@ loop-ui-preserved g c =
       size = record { same_lines = c.seek.ensures.size.same_lines ∙ was.size.same_lines; same_columns = c.seek.ensures.size.same_columns ∙ was.size.same_columns };
       same = c.seek.ensures.same ∙ was.same;
       later = let before = was.later in let after = c.seek.ensures.later in omega (arith, before, after);
-      source = (c.seek_source.0 ∙ was.source.0, c.seek_source.1 ∙ was.source.1);
+      source = (c.is_stopped.ensures.source.0 ∙ was.source.0, c.is_stopped.ensures.source.1 ∙ was.source.1);
       none = λ h. absurd (not_none c.loop-ui.steps h);
       nearer = λ some. left_fewer c.loop-ui.steps c.args.ui.now c.loop-ui.ui c.seek.new.self was.none was.nearer (c.in_ok-seek.ensures.falls seeking);
     }
