@@ -148,6 +148,10 @@ def check_find(program, base, check):
     numbered = [f"{number:03}" for number in range(250)]
     for name in numbered:
         open(os.path.join(many, name), "w").close()
+    crowd = [os.path.join(base, "crowd", f"{number:03}") for number in range(600)]
+    os.mkdir(os.path.join(base, "crowd"))
+    for path in crowd:
+        open(path, "w").close()
     below = [os.path.join(folder, name) for name in ("a.c", "in", "in/b.c", "in/deep", "in/deep/needle")]
     size = (24, 80)
 
@@ -168,7 +172,7 @@ def check_find(program, base, check):
     shutil.rmtree(os.path.join(folder, twin))
     check("the current path is in reverse", told.screens[4].looks(11)[10:70] == "r" * 60)
 
-    status, told, _ = run(program, [folder, deep], [FIND, ENTER, EMPTY + b"*.c", ENTER, b"needle", ENTER, b"s", ESCAPE, F10], size)
+    status, told, _ = run(program, [folder, deep], [FIND, ENTER, EMPTY + b"*.c", ENTER, b"needle", ENTER, b"\x03", ESCAPE, F10], size)
     opened, *_, found, stopped, left = [screen.rows() for screen in told.screens]
     check("a content is sought in the files of a name", status == 0 and found == with_box(opened, ["Found 1", below[2]]))
     check("a search that has ended stays as it is, and Escape leaves it", stopped == found and left == opened)
@@ -185,6 +189,16 @@ def check_find(program, base, check):
     status, told, _ = run(program, [folder, deep], [FIND, EMPTY + b"../numbered", ENTER, ENTER, ENTER, F10, F10], size)
     opened, *_, found, left = [screen.rows() for screen in told.screens]
     check("a page of many paths is shown", status == 0 and found == with_box(opened, ["Found 250"] + [os.path.join(many, name) for name in numbered[:18]]) and left == opened)
+
+    # The search makes two steps for each thing, and asks after a thousand whether C-c waits.
+    sought = [FIND, EMPTY + b"../crowd", ENTER, ENTER]
+    status, told, _ = run(program, [folder, deep], sought + [ENTER + b"\x03", END, F10, F10], size)
+    opened, *_, found, last, left = [screen.rows() for screen in told.screens]
+    check("C-c stops a search, and what was found stays", status == 0 and found == with_box(opened, ["Found 500, stopped"] + crowd[:18]) and left == opened)
+    check("a stopped list is a list as any", last == with_box(opened, ["Found 500, stopped"] + crowd[482:500]))
+    status, told, _ = run(program, [folder, deep], sought + [ENTER + DOWN + b"\x03", F10, F10], size)
+    opened, *_, found, left = [screen.rows() for screen in told.screens]
+    check("behind another key C-c waits for the end of the search", status == 0 and found == with_box(opened, ["Found 600"] + crowd[:18]) and left == opened)
 
     status, told, _ = run(program, [folder, base], [FIND, EMPTY + b"a.c", ENTER, ENTER, ENTER, ENTER, F10], size)
     opened, *_, found, left = [screen.rows() for screen in told.screens]

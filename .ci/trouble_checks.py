@@ -158,6 +158,7 @@ def check_part_left(program, base, check):
     part = os.path.join(target, ".mc.1.0.part")
     is_told = b"| part left " in told and b"| " + part.encode() + b" " in told
     check("a part that stays is told", status == 0 and same and os.path.exists(part) and is_told)
+    check("and once more behind the session", told.written.rstrip().endswith(b"mc: part left: " + part.encode()))
 
 
 def check_list_of_jobs(program, base, check):

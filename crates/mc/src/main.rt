@@ -1,10 +1,12 @@
 //! The program: the real devices, the terminal made raw and put back, and one run.
 #![tactic(auto)]
 
+mod remains;
 mod session_screen;
 mod surroundings;
 mod terminal;
 
+use crate::remains::tell_remains;
 use crate::session_screen::SessionScreen;
 use crate::surroundings::{NoWords, surroundings, words_of};
 use crate::terminal::{TerminalChange, begin_line, leave_screen, make_raw, put_back, put_usage};
@@ -12,6 +14,7 @@ use host_devices::{HostClock, ShSpawner, StdinSource, StdoutSink};
 use host_tree::HostTree;
 use mc_main::{Beginning, Env, Gate, beginning_of, mc_run};
 use mc_text::Text;
+use session_log::History;
 use std::alloc::Global;
 use std::io;
 use std::marker::Brand;
@@ -39,14 +42,16 @@ fn main(rt: HostRuntime) -> io::Result<ExitCode> {
     let terminal = enter(&rt, words.as_slice(), &mut env);
     let end = run(rt, words.as_slice(), &env);
     leave(&rt, &terminal, &end);
+    tell_remains(&rt, &end.history);
     Ok(ExitCode::from(end.status))
 }
 
-/// How a run ended: its status, and whether it went to the terminal's other screen.
+/// How a run ended: its status, whether it went to the terminal's other screen, and its history.
 #[derive(Drop)]
 struct RunEnd {
     status: u8,
     has_entered: bool,
+    history: History,
 }
 
 /// One run over the real devices.
@@ -78,6 +83,7 @@ fn run(rt: HostRuntime, words: &[Text], env: &Env) -> RunEnd {
     RunEnd {
         status: outcome.status,
         has_entered: outcome.screen.has_entered(),
+        history: outcome.history,
     }
 }
 

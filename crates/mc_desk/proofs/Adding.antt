@@ -46,7 +46,7 @@ use Rattle.mc_desk.specs.Granting.{KeyWorks}
 use Rattle.mc_ui.specs.Seekings.{is_seeking}
 use Rattle.mc_desk.specs.Searches.{HasSought}
 use Rattle.mc_desk.specs.Shown.{DrawsFrame, PutsNothing, frame_due, none_before}
-use Rattle.mc_desk.specs.Sessions.{MayEnd, StepFault}
+use Rattle.mc_desk.specs.Sessions.{MayEnd, MayWork, StepFault}
 use Rattle.job_sources.specs.Turning.{finishes}
 use Rattle.mc_desk.proofs.Answering.{part_told, waiting_told}
 use Rattle.mc_desk.proofs.Keeping.{Adds, Leads, before}
@@ -166,7 +166,7 @@ steps old new live did after log now is leads = record {
 module _ (contents contents_after : Option CallLog) (faults : ℕ) (old new : Seen) (seat count shown : ℕ) (main : seat ≡ 0) where
   -- a key that was worked
   pub adds_key : (key : KeyType) (now : ℕ) (refusals : List Refusal) → new.newest ≡ entry seat old.tally.calls count shown (Key key now refusals false) ∷ old.newest → new.tally ≡ old.tally → new.job ≡ old.job
-      → new.tally.job ≡ option_map told_job new.job → old.tally.closed ≡ false → old.tally.due ≡ None → is_seeking old.screen ≡ false → old.tally.lost ≡ false → old.screen.planned ≡ None → contents_after ≡ contents
+      → new.tally.job ≡ option_map told_job new.job → old.tally.closed ≡ false → old.tally.due ≡ None → MayWork key old.screen → old.tally.lost ≡ false → old.screen.planned ≡ None → contents_after ≡ contents
       → faults_in faults old.newest ≤ count → (has_fault refusals ≡ true → HasRisen (faults_in faults old.newest) count) → IfKnown contents (λ log. AreRefused log refusals)
       → KeyWorks contents (rows_told old.newest) (next_id old.tally.last) now key refusals (noted_screen old) (noted_screen new) → old.quit ≡ false → new.dirty ≡ old.dirty → new.later ≡ old.later
       → DrawsFrame (none_before old.newest) (frame_due (noted_screen new) (next_id old.tally.last) (rows_told old.newest)) shown old.out.put new.out.put
@@ -180,7 +180,7 @@ module _ (contents contents_after : Option CallLog) (faults : ℕ) (old new : Se
     told = tells;
     timely = unplanned old unasked settled;
     counts = record { seat = main; later = later; fault = fault; calls = omega arith; most = omega arith };
-    leads = (record { unclosed = unclosed; looked = looked; sought = ap is_seeking (unasked_screen old unasked) ∙ sought; unlost = unlost }, leads);
+    leads = (record { unclosed = unclosed; looked = looked; sought = subst (MayWork key) (sym (unasked_screen old unasked)) sought; unlost = unlost }, leads);
     sought = tt;
     caused = refused;
     traced = leads_still contents contents_after same old new (entry seat old.tally.calls count shown (Key key now refusals false)) refl dirty (λ log stays. record { after_is = stays; now_is = refl }) (job ∙ open_job old.tally.closed old.job unclosed);
@@ -190,7 +190,7 @@ module _ (contents contents_after : Option CallLog) (faults : ℕ) (old new : Se
   -- a key that was lost
   pub adds_lost : (key : KeyType) (now : ℕ) → new.newest ≡ entry seat old.tally.calls count shown (Key key now [] true) ∷ old.newest
       → new.tally ≡ record old.tally { lost = true } → new.job ≡ old.job → new.tally.job ≡ option_map told_job new.job
-      → old.tally.closed ≡ false → old.tally.due ≡ None → is_seeking old.screen ≡ false → old.tally.lost ≡ false → old.screen.planned ≡ None → contents_after ≡ contents
+      → old.tally.closed ≡ false → old.tally.due ≡ None → MayWork key old.screen → old.tally.lost ≡ false → old.screen.planned ≡ None → contents_after ≡ contents
       → faults_in faults old.newest ≤ count → new.screen ≡ old.screen → new.quit ≡ old.quit → old.quit ≡ false → new.dirty ≡ old.dirty → new.later ≡ old.later → PutsNothing shown old.out.put new.out.put
       → Adds contents contents_after faults old new (entry seat old.tally.calls count shown (Key key now [] true))
   adds_lost key now more tally job tells unclosed looked sought unlost settled same later screen quit unasked dirty left put = record {
@@ -202,7 +202,7 @@ module _ (contents contents_after : Option CallLog) (faults : ℕ) (old new : Se
     told = tells;
     timely = unplanned old unasked settled;
     counts = record { seat = main; later = later; fault = λ h. absurd cc; calls = omega arith; most = omega arith };
-    leads = (record { unclosed = unclosed; looked = looked; sought = ap is_seeking (unasked_screen old unasked) ∙ sought; unlost = unlost }, refl, same_noted old new screen quit);
+    leads = (record { unclosed = unclosed; looked = looked; sought = subst (MayWork key) (sym (unasked_screen old unasked)) sought; unlost = unlost }, refl, same_noted old new screen quit);
     sought = tt;
     caused = λ log known. tt;
     traced = leads_still contents contents_after same old new (entry seat old.tally.calls count shown (Key key now [] true)) refl dirty (λ log stays. record { after_is = stays; now_is = refl }) (job ∙ open_job old.tally.closed old.job unclosed);

@@ -1,7 +1,9 @@
 -- A key that is none asks for nothing, and begins no search.
-use Rattle.std.proofs.Common.{◌≡◌, ℕ, false, List, sym, ◌∙◌, ap, inl, inr, refl, Option, None}
+use Rattle.std.proofs.Common.{◌≡◌, ℕ, Bool, true, false, List, sym, ◌∙◌, ap, inl, inr, refl, Option, None}
 use Rattle.key_screen.specs.declared.keys.Key.{Key as KeyType}
-use Rattle.key_screen.specs.declared.keys.Base.TheVariants.{Unknown}
+use Rattle.key_screen.specs.declared.keys.Base.TheVariants.{Ctrl, Unknown}
+use Rattle.ui_find.specs.FindKeys.{stop_key}
+use Rattle.mc_desk.specs.Sessions.{MayWork}
 use Rattle.tree_trait.specs.Change.{CallLog}
 use Rattle.job_reports.specs.declared.row.JobRow.{JobRow}
 use Rattle.session_entries.specs.declared.refusal.Refusal.{Refusal}
@@ -40,6 +42,15 @@ deed_sought deed.Refuse after = refl
 deed_sought deed.End after = refl
 deed_sought (deed.Begin confirmed) after = refl
 deed_sought (deed.Answer answer) after = refl
+
+-- while a search goes on no unknown key is worked
+pub none_unknown : (key : KeyType) (screen : Screen) → key.base ≡ Unknown → MayWork key screen → is_seeking screen ≡ false
+none_unknown key screen unknown may = go (is_seeking screen) refl
+  where
+    go : (seeking : Bool) → is_seeking screen ≡ seeking → seeking ≡ false
+    go false is = refl
+    go true is =
+        absurd (let stops : key ≡ stop_key = may is in let same : Unknown ≡ Ctrl 99 = sym unknown ∙ ap (λ (k : KeyType). k.base) stops in cc)
 
 pub unknown_sought : (contents : Option CallLog) (rows : List JobRow) (next : Option ℕ) (now : ℕ) (key : KeyType) (before after : Screen) (done : Deed) (refusals : List Refusal) → key.base ≡ Unknown → is_seeking before ≡ false
     → IsWorked contents rows next now key before after done refusals → is_seeking after ≡ false

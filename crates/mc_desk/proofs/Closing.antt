@@ -6,7 +6,7 @@ use Rattle.tree_trait.specs.Change.{CallLog}
 use Rattle.session_entries.specs.declared.history.Event.TheVariants.{Closed, Key}
 use Rattle.copy_move.proofs.Telling.{closed_told}
 use Rattle.mc_ui.specs.Screens.{Screen}
-use Rattle.mc_ui.specs.Seekings.{is_seeking}
+use Rattle.mc_desk.specs.Sessions.{MayWork}
 use Rattle.mc_desk.specs.declared.starts.Start.{Start}
 use Rattle.mc_desk.specs.declared.standing.Standing.{Standing}
 use Rattle.session_log.specs.Logs.{Logged, plain_entry}
@@ -32,7 +32,7 @@ module _ (start : Option Start) (opening contents : Option CallLog) (faults : �
       (ap (λ j. let t : Tally = record (closed_tally was.lost) { job = j } in t) (closed_told true was.job)) refl refl refl refl room refl refl refl)
 
   -- a key that was lost, and the end of keys
-  pub lost_whole : (key : KeyType) (now shown : ℕ) → was.quit ≡ false → awaited_look was.due ≡ None → is_seeking screen ≡ false
+  pub lost_whole : (key : KeyType) (now shown : ℕ) → was.quit ≡ false → awaited_look was.due ≡ None → MayWork key screen
       → log_after.newest ≡ plain_entry was.calls count Closed ∷ (entry 0 was.calls count shown (Key key now [] true) ∷ log.newest) → 1 ≤ log_after.spare → now_is ≡ closed_standing (record was { lost = true }) → PutsNothing shown out.put out.put
       → IsDesk start opening contents faults (seen_of log_after screen now_is dirty out taken pending)
   lost_whole key now shown unasked looked sought more room closed puts =

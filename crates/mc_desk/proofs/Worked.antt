@@ -29,7 +29,7 @@ use Rattle.session_entries.specs.Sources.{sources_of}
 use Rattle.copy_move.specs.Told.{running, told_job}
 use Rattle.ui_job_boxes.specs.LiveJobs.{can_answer, takes_answer}
 use Rattle.mc_ui.specs.Screens.{Answers, Begins, Screen}
-use Rattle.mc_ui.specs.Seekings.{is_seeking}
+use Rattle.mc_desk.specs.Sessions.{MayWork}
 use Rattle.ui_plans.specs.Refused.{has_fault}
 use Rattle.mc_desk.specs.declared.starts.Start.{Start}
 use Rattle.mc_desk.specs.declared.granting.Deed.{Deed}
@@ -207,7 +207,7 @@ cleared s h = ap (λ o. let c : Screen = record s { planned = o } in c) h
 
 module _ (start : Option Start) (opening contents contents_after : Option CallLog) (faults : ℕ) (log log_after : Logged) (screen screen_after : Screen) (was : Standing) (dirty : List Route) (out out_after : Output) (taken : ℕ)
     (pending : List ℕ) (count : ℕ) (key : KeyType) (now : ℕ) (desk : IsDesk start opening contents faults (seen_of log screen was dirty out taken pending)) (unclosed : was.closed ≡ false) (unasked : was.quit ≡ false)
-    (looked : awaited_look was.due ≡ None) (sought : is_seeking screen ≡ false) (same : contents_after ≡ contents) (later : faults_in faults log.newest ≤ count) (refusals : List Refusal)
+    (looked : awaited_look was.due ≡ None) (sought : MayWork key screen) (same : contents_after ≡ contents) (later : faults_in faults log.newest ≤ count) (refusals : List Refusal)
     (fault : has_fault refusals ≡ true → HasRisen (faults_in faults log.newest) count) (refused : IfKnown contents (λ l. AreRefused l refusals)) (room : 2 ≤ log_after.spare)
     (rows : List JobRow) (rows_is : rows ≡ rows_of was.job (waits_told log.newest)) (r : Result (Unit {0}) SinkError) where
   abbrev pub old : Seen

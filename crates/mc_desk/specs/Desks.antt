@@ -42,7 +42,7 @@ use Rattle.mc_desk.specs.Standings.{tally_of}
 use Rattle.job_sources.specs.Turning.{rank_left}
 use Rattle.mc_desk.specs.declared.standing.Standing.{Standing}
 use Rattle.mc_desk.specs.DeskDevices.{RanNothing}
-use Rattle.mc_desk.specs.KeysTaken.{LacksSecond}
+use Rattle.mc_desk.specs.KeysTaken.{LacksSecond, stop_byte}
 
 -- what can be seen of a desk: its entries, the newest first, and how many more find room; the screen;
 -- the live job, and the sources that it is yet to take up; the dirty folders; what the history came
@@ -201,6 +201,10 @@ is_over desk = desk.tally.closed || desk.quit
 -- a search goes on, and the session takes keys
 abbrev pub seeks : Seen → Bool
 seeks desk = not (is_over desk) && is_seeking desk.screen
+
+-- while a search goes on no byte is taken but that of C-c, at the beginning of a key
+abbrev pub MayTake : ℕ → Seen → Type 0
+MayTake byte desk = seeks desk ≡ true → (byte ≡ stop_byte) × (desk.pending ≡ [])
 
 -- An error closes the desk, unless memory ran out and all was left as it was; there may be
 -- more room for entries then.

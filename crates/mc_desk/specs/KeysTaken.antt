@@ -5,6 +5,10 @@ use Rattle.key_screen.specs.DecodedKeys.{decoded_keys}
 use Rattle.session_entries.specs.declared.history.Entry.{Entry}
 use Rattle.mc_desk.specs.KeysAndFaults.{keys_in}
 
+-- the byte of C-c, the key that stops a search
+abbrev pub stop_byte : ℕ
+stop_byte = 3
+
 -- the last of these bytes completed two keys, of which the history lacks the second
 pub record LacksSecond (bytes : List ℕ) (newest : List Entry) : Type 0 where
   pub prefix : List ℕ

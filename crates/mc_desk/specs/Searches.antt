@@ -1,5 +1,5 @@
 -- What the steps of a search make of the screen, and which entry tells of them.
-use Rattle.std.specs.Prelude.{◌≡◌, ◌⊎◌, ℕ, ◌≤◌, zero, suc, Bool, true, false, ⊤, not, Option}
+use Rattle.std.specs.Prelude.{◌≡◌, ◌⊎◌, ℕ, ◌≤◌, zero, suc, Bool, true, false, ⊤, not, List, Option}
 use Rattle.tree_trait.specs.Change.{CallLog}
 use Rattle.session_entries.specs.declared.history.Event.{Event}
 use Rattle.session_entries.specs.declared.history.Event.TheVariants.{Key, Look, Sought, Began}
@@ -31,13 +31,17 @@ SeeksOn may_lack (suc steps) contents faults faults_after before after =
     (screen : Screen) × (count : ℕ) × SeeksOn false steps contents faults count before screen
     × Seeks may_lack contents count faults_after screen after
 
--- steps were made, one at least and a hundred at most; only in the last of them may memory have run out
+-- steps were made, one at least and 50,000 at most; only in the last of them may memory have run out
 pub record HasSought (contents : Option CallLog) (faults faults_after : ℕ)
     (before after : Screen) : Type 0 where
   pub steps : ℕ
   pub some : 1 ≤ steps
-  pub most : steps ≤ 100
+  pub most : steps ≤ 50000
   pub made : SeeksOn true steps contents faults faults_after before after
+
+-- the source has the same bytes left, and has failed as often
+abbrev pub KeepsSource : Option (List ℕ) → Option (List ℕ) → ℕ → ℕ → Type 0
+KeepsSource left left_after faults faults_after = (left_after ≡ left) × (faults_after ≡ faults)
 
 -- An entry of a search tells of steps, while the tree's faults rose to its count. Nothing else seeks.
 abbrev pub EventSeeks : Event → Option CallLog → ℕ → ℕ → Screen → Screen → Type 0

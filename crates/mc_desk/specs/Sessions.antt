@@ -5,6 +5,7 @@ use Rattle.std.specs.Prelude.{List, [], ◌∷◌, Option, Some, None, IsSome, O
 use Rattle.mc_text.specs.Routes.{Route, path_text}
 use Rattle.tree_trait.specs.Change.{CallLog}
 use Rattle.tree_trait.specs.Answers.{HasRisen, IfKnown}
+use Rattle.key_screen.specs.declared.keys.Key.{Key as KeyType}
 use Rattle.job_reports.specs.declared.answer.Answer.{Answer}
 use Rattle.job_reports.specs.declared.job.Job.{Job}
 use Rattle.job_reports.specs.declared.row.JobRow.{JobRow}
@@ -27,6 +28,7 @@ use Rattle.ui_plans.specs.Refused.{has_fault}
 use Rattle.ui_job_boxes.specs.LiveJobs.{takes_answer}
 use Rattle.mc_ui.specs.Screens.{Screen, Planned, Begins, Answers, Ends, LookLeads, opened_screen, with_viewer}
 use Rattle.mc_ui.specs.Seekings.{is_seeking}
+use Rattle.ui_find.specs.FindKeys.{stop_key}
 use Rattle.mc_ui.specs.declared.viewing.Leaving.TheVariants as leaving
 use Rattle.panel_pair.specs.Openings.{OpensBoth}
 use Rattle.panel_pair.specs.Pairs.{PairState, opened_pair, unread_pair}
@@ -45,12 +47,16 @@ use Rattle.session_log.specs.Told.{news_left}
 use Rattle.mc_desk.specs.Tallies.{Tally, tally, most_calls, next_id}
 use Rattle.mc_desk.specs.KeysAndFaults.{faults_in}
 
--- no key is worked in a closed session, where something is to be looked at, while a search goes
--- on, or after one was lost
-pub record TakesKey (t : Tally) (screen : Screen) : Type 0 where
+-- while a search goes on no key is worked but C-c, which stops it
+abbrev pub MayWork : KeyType → Screen → Type 0
+MayWork key screen = is_seeking screen ≡ true → key ≡ stop_key
+
+-- No key is worked in a closed session, where something is to be looked at, or after one was lost, and
+-- none but C-c while a search goes on.
+pub record TakesKey (t : Tally) (key : KeyType) (screen : Screen) : Type 0 where
   pub unclosed : t.closed ≡ false
   pub looked : t.due ≡ None
-  pub sought : is_seeking screen ≡ false
+  pub sought : MayWork key screen
   pub unlost : t.lost ≡ false
 
 -- How a session stands before an entry: what the tree holds, where it tells that, what the history came to,
@@ -88,8 +94,8 @@ pub record IsOrdered (was : Before) (id : ℕ) (answer : Answer) (after : Screen
 -- and it goes on with a next source where it might report that it is finished.
 abbrev pub EventLeads : Before → Event → Screen → Type 0
 EventLeads was (Key key now refusals true) after =
-    TakesKey was.tally was.screen × (refusals ≡ []) × (after ≡ was.screen)
-EventLeads was (Key key now refusals false) after = TakesKey was.tally was.screen
+    TakesKey was.tally key was.screen × (refusals ≡ []) × (after ≡ was.screen)
+EventLeads was (Key key now refusals false) after = TakesKey was.tally key was.screen
     × KeyWorks was.contents was.rows (next_id was.tally.last) now key refusals was.screen after
 EventLeads was (Look refusals) after =
     (was.tally.closed ≡ false) × IsSome was.tally.due

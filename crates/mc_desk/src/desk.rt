@@ -17,9 +17,9 @@ ghost use Rattle.mc_desk.specs.Outputs.{Blames};
 ghost use Rattle.mc_desk.specs.DeskDevices.{HasGiven, put_since, RanNothing};
 ghost use Rattle.mc_desk.specs.Standings.{awaited_by, is_quit};
 ghost use Rattle.mc_desk.specs.Desks.{BlamesScreen, CountsByte, FailsClosed, IsFresh, IsNext, KeepsKeys};
-ghost use Rattle.mc_desk.specs.Desks.{MovesDirty, ShowsDesk, idle_reply, is_over, rank_of, seeks};
+ghost use Rattle.mc_desk.specs.Desks.{MayTake, MovesDirty, ShowsDesk, idle_reply, is_over, rank_of, seeks};
 ghost use Rattle.mc_desk.specs.KeysTaken.{Reads};
-ghost use Rattle.mc_desk.specs.Searches.{steps_ahead};
+ghost use Rattle.mc_desk.specs.Searches.{KeepsSource, steps_ahead};
 
 use crate::opening::open;
 use crate::replies::{DeskError, DeskReply, Ended, Refused, StepReply};
@@ -28,7 +28,7 @@ use crate::starts::Start;
 use crate::tag::Tag;
 use std::alloc::Global;
 use std::marker::Model;
-use tree_trait::{Sink, Spawner, Tree};
+use tree_trait::{Sink, Source, Spawner, Tree};
 
 /// A desk. `N` names the world as the session found it.
 #[derive(Drop)]
@@ -96,12 +96,12 @@ impl<N: Tag, T: Tree, S: Sink, P: Spawner> Desk<N, T, S, P> {
     }
 
     /// Takes the next byte of the keyboard and works the keys that it completes; the reply is that of the
-    /// last. Each is drawn. Where it finds no memory before the byte is taken, nothing changes; each other
-    /// error closes the desk. `Wait` names the job that is due then. One that is closed, or whose end was
-    /// asked, takes no byte and answers `Quit`.
+    /// last. Each is drawn. While a search goes on the byte is that of C-c, which stops it. Where it finds no
+    /// memory before the byte is taken, nothing changes; each other error closes the desk. `Wait` names the
+    /// job that is due then. One that is closed, or whose end was asked, takes no byte and answers `Quit`.
     pub fn byte(&mut self, alloc: Global, byte: u8, now: u64) -> Result<DeskReply, DeskError>
         requires looked { self.old.tally.due ≡ None }
-        requires sought { seeks self.old ≡ false }
+        requires sought { MayTake byte self.old }
         requires next { IfKnown N.stream (λ bytes. IsNext bytes self.old.taken byte) }
 
         // On an open desk a terminal shows of all that was put the frame of what the screen shows.
@@ -134,10 +134,11 @@ impl<N: Tag, T: Tree, S: Sink, P: Spawner> Desk<N, T, S, P> {
         self.session.look(alloc)
     }
 
-    /// Makes steps of the search that goes on, a hundred at most, and draws the list as it then is. Where
-    /// none goes on the desk stays as it is. Where memory is wanting for a step the desk is closed, once
-    /// what was found by then is drawn.
-    pub fn seek(&mut self, alloc: Global) -> Result<(), DeskError>
+    /// Makes steps of the search that goes on, to its end, or to where C-c waits in the source, or 50,000,
+    /// and draws the list as it then is. Of the source it is asked after each 1,000 steps whether that is
+    /// the next byte. Where no search goes on the desk stays as it is. Where memory is wanting for a step
+    /// the desk is closed, once what was found by then is drawn.
+    pub fn seek<K: Source>(&mut self, alloc: Global, keys: &mut K) -> Result<(), DeskError>
         requires looked { self.old.tally.due ≡ None }
         ensures shows { OnOk result (self.new.tally.closed ≡ false → ShowsDesk self.new) }
         ensures nearer { OnOk result (seeks self.old ≡ true
@@ -150,8 +151,10 @@ impl<N: Tag, T: Tree, S: Sink, P: Spawner> Desk<N, T, S, P> {
         ensures quit { self.new.quit ≡ self.old.quit }
         ensures dirty { self.new.dirty ≡ self.old.dirty }
         ensures screen_failed { BlamesScreen result self.new.out.failed }
+        ensures source { KeepsSource (K.left keys.old) (K.left keys.new) (K.fault_count keys.old)
+            (K.fault_count keys.new) }
     {
-        self.session.seek(alloc)
+        self.session.seek(alloc, keys)
     }
 
     /// Whether a search goes on, on a desk that takes keys.
@@ -159,6 +162,13 @@ impl<N: Tag, T: Tree, S: Sink, P: Spawner> Desk<N, T, S, P> {
         ensures { result ≡ seeks self.now }
     {
         self.session.is_seeking()
+    }
+
+    /// Whether the next byte begins a key.
+    pub fn is_between_keys(&self) -> bool
+        ensures { result ≡ true → self.now.pending ≡ [] }
+    {
+        self.session.is_between_keys()
     }
 
     /// What is to be looked at before the next byte: the job of this number, or 0 for the opening frame.

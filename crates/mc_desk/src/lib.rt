@@ -22,5 +22,6 @@ pub use mc_ui::{
 };
 pub use panel_pair::Side;
 pub use replies::{DeskError, DeskReply, Ended, Refused, StepReply};
+pub use seeking::STOP_BYTE;
 pub use starts::{Start, StartError, StartMode, StartPlace};
 pub use tag::Tag;

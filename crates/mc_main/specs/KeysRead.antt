@@ -1,13 +1,14 @@
 -- Which bytes of the keyboard a run takes, and which it leaves.
-use Rattle.std.specs.Prelude.{◌≡◌, ◌⊎◌, ℕ, ◌+◌, ◌≤◌, List, [], length, take}
+use Rattle.std.specs.Prelude.{◌≡◌, ◌⊎◌, ℕ, ◌+◌, ◌≤◌, true, List, [], length, take}
 use Rattle.std.specs.Prelude.{drop, Option, Some, None, Result, Ok, Err}
 use Rattle.std.specs.Option.{option_map}
 use Rattle.tree_trait.specs.Answers.{IfKnown}
+use Rattle.tree_trait.specs.Devices.{is_next}
 use Rattle.tree_trait.specs.declared.devices.SourceFault.{SourceFault}
 use Rattle.key_screen.specs.DecodedKeys.{decoded_keys}
 use Rattle.session_entries.specs.declared.history.Entry.{Entry}
 use Rattle.mc_desk.specs.KeysAndFaults.{keys_in}
-use Rattle.mc_desk.specs.KeysTaken.{LacksSecond}
+use Rattle.mc_desk.specs.KeysTaken.{LacksSecond, stop_byte}
 use Rattle.mc_main.specs.declared.session.SessionEnd.{SessionEnd}
 use Rattle.mc_main.specs.declared.session.SessionEnd.TheVariants.{ScreenFailed, NoMemory}
 use Rattle.mc_main.specs.Statuses.{IsCutShort}
@@ -31,6 +32,10 @@ pub record ReadsKeys (bytes : List ℕ) (left : Option (List ℕ)) (status : ℕ
   pub keys : ((decoded_keys (take taken bytes)).keys ≡ keys_in newest)
       ⊎ (LacksSecond (take taken bytes) newest × IsCutShort status)
   pub others : (left ≡ Some (drop taken bytes)) ⊎ ((left ≡ Some (drop (taken + 1) bytes)) × IsCutShort status)
+
+-- the next byte that a source gives, where that is known, is that of C-c, which stops a search
+abbrev pub StopIsNext : Option (List ℕ) → Type 0
+StopIsNext left = IfKnown left (λ bytes. is_next stop_byte bytes ≡ true)
 
 -- how many bytes a source gave
 abbrev pub bytes_given : Result (Option ℕ) SourceFault → ℕ

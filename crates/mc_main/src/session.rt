@@ -1,11 +1,12 @@
 //! A session: keys are taken one byte at a time, and after each the job or the search
-//! that it began is worked.
+//! that it began is worked. C-c stops a search.
 ghost use Rattle.std.specs.Prelude.{◌≡◌, ◌≤◌, true, false, None, Some, IfOk, IfNone, OnOk, slice_get};
 ghost use Rattle.tree_trait.specs.Answers.{HasRisen, HasCause, IfKnown};
-ghost use Rattle.mc_desk.specs.Desks.{IsFresh, KeepsKeys, is_over, seeks};
-ghost use Rattle.mc_main.specs.KeysRead.{IsCut, LeavesOthers, TookAll, bytes_given, left_of};
+ghost use Rattle.mc_desk.specs.Desks.{IsFresh, KeepsKeys, MayTake, is_over, seeks};
+ghost use Rattle.mc_desk.specs.Searches.{KeepsSource};
+ghost use Rattle.mc_main.specs.KeysRead.{IsCut, LeavesOthers, StopIsNext, TookAll, bytes_given, left_of};
 
-use mc_desk::{Desk, DeskError, DeskReply, Tag};
+use mc_desk::{Desk, DeskError, DeskReply, STOP_BYTE, Tag};
 use std::alloc::Global;
 use tree_trait::{Clock, Sink, Source, SourceFault, Spawner, Tree};
 
@@ -46,8 +47,8 @@ pub fn run_session<N: Tag, T: Tree, K: Source, S: Sink, P: Spawner, C: Clock>(
     SessionEnd::NoMemory
 }
 
-/// Works what is due, makes a search to its end, then takes one byte and works its keys. The answer is the
-/// session's end, if it has come.
+/// Works what is due, makes a search to its end, or up to C-c, then takes one byte and works its keys. The
+/// answer is the session's end, if it has come.
 fn take_turn<N: Tag, T: Tree, K: Source, S: Sink, P: Spawner, C: Clock>(
     alloc: Global,
     desk: &mut Desk<N, T, S, P>,
@@ -68,7 +69,7 @@ fn take_turn<N: Tag, T: Tree, K: Source, S: Sink, P: Spawner, C: Clock>(
     if let Err(error) = work_due(alloc, desk) {
         return Some(failed(error));
     }
-    if let Err(error) = seek_to_end(alloc, desk) {
+    if let Err(error) = seek_till_stopped(alloc, desk, keys) {
         return Some(failed(error));
     }
     let byte = match take_byte(desk, keys) {
@@ -76,6 +77,9 @@ fn take_turn<N: Tag, T: Tree, K: Source, S: Sink, P: Spawner, C: Clock>(
         Ok(None) => return Some(SessionEnd::KeysEnded),
         Ok(Some(byte)) => byte,
     };
+    if let Err(error) = seek_before(alloc, desk, keys, byte) {
+        return Some(failed(error));
+    }
     match desk.byte(alloc, byte, clock.now()) {
         Err(error) => Some(failed(error)),
         Ok(DeskReply::Quit) => Some(SessionEnd::Quit),
@@ -84,13 +88,13 @@ fn take_turn<N: Tag, T: Tree, K: Source, S: Sink, P: Spawner, C: Clock>(
 }
 
 /// Takes one byte, or none at the end of the keys. It may wait, so on the desk nothing is
-/// due, and no search goes on.
+/// due, and no search goes on unless C-c is the next byte.
 fn take_byte<N: Tag, T: Tree, K: Source, S: Sink, P: Spawner>(
     _desk: &Desk<N, T, S, P>,
     keys: &mut K,
 ) -> Result<Option<u8>, SourceFault>
     requires worked { _desk.now.tally.due ≡ None }
-    requires sought { seeks _desk.now ≡ false }
+    requires sought { seeks _desk.now ≡ true → StopIsNext (K.left keys.old) }
     ensures first { IfKnown (K.left keys.old) (λ bytes. IfOk result (λ byte. byte ≡ slice_get bytes 0)) }
     ensures left { K.left keys.new ≡ left_of (K.left keys.old) (bytes_given result) }
     ensures cause { HasCause (record {}) (K.fault_count keys.old) (K.fault_count keys.new) result }
@@ -126,19 +130,68 @@ fn work_due<N: Tag, T: Tree, S: Sink, P: Spawner>(
     }
 }
 
-/// Makes the search to its end, if one goes on. The list of what it finds grows on the screen.
-fn seek_to_end<N: Tag, T: Tree, S: Sink, P: Spawner>(
+/// Makes the search that goes on, if one does, to its end, or up to where C-c is the next byte. The list of
+/// what it finds grows on the screen. Nothing is taken.
+fn seek_till_stopped<N: Tag, T: Tree, K: Source, S: Sink, P: Spawner>(
     alloc: Global,
     desk: &mut Desk<N, T, S, P>,
+    keys: &mut K,
+) -> Result<(), DeskError>
+    requires looked { desk.old.tally.due ≡ None }
+    ensures keys { KeepsKeys desk.old desk.new }
+    ensures over { OnOk result (is_over desk.new ≡ is_over desk.old) }
+    ensures looked { OnOk result (desk.new.tally.due ≡ None) }
+    ensures sought { OnOk result (seeks desk.new ≡ true → StopIsNext (K.left keys.new)) }
+    ensures source { KeepsSource (K.left keys.old) (K.left keys.new) (K.fault_count keys.old)
+        (K.fault_count keys.new) }
+{
+    while desk.is_seeking() {
+        desk.seek(alloc, keys)?;
+        if keys.next_is(STOP_BYTE) {
+            return Ok(());
+        }
+    }
+    Ok(())
+}
+
+/// Makes the search that goes on, if one does, to its end before this byte is worked, which was taken
+/// already, unless it is C-c at the beginning of a key.
+fn seek_before<N: Tag, T: Tree, K: Source, S: Sink, P: Spawner>(
+    alloc: Global,
+    desk: &mut Desk<N, T, S, P>,
+    keys: &mut K,
+    byte: u8,
+) -> Result<(), DeskError>
+    requires looked { desk.old.tally.due ≡ None }
+    ensures keys { KeepsKeys desk.old desk.new }
+    ensures over { OnOk result (is_over desk.new ≡ is_over desk.old) }
+    ensures looked { OnOk result (desk.new.tally.due ≡ None) }
+    ensures sought { OnOk result (MayTake byte desk.new) }
+    ensures source { KeepsSource (K.left keys.old) (K.left keys.new) (K.fault_count keys.old)
+        (K.fault_count keys.new) }
+{
+    if byte == STOP_BYTE && desk.is_between_keys() {
+        return Ok(());
+    }
+    seek_to_end(alloc, desk, keys)
+}
+
+/// Makes the search to its end, if one goes on.
+fn seek_to_end<N: Tag, T: Tree, K: Source, S: Sink, P: Spawner>(
+    alloc: Global,
+    desk: &mut Desk<N, T, S, P>,
+    keys: &mut K,
 ) -> Result<(), DeskError>
     requires looked { desk.old.tally.due ≡ None }
     ensures keys { KeepsKeys desk.old desk.new }
     ensures over { OnOk result (is_over desk.new ≡ is_over desk.old) }
     ensures looked { OnOk result (desk.new.tally.due ≡ None) }
     ensures sought { OnOk result (seeks desk.new ≡ false) }
+    ensures source { KeepsSource (K.left keys.old) (K.left keys.new) (K.fault_count keys.old)
+        (K.fault_count keys.new) }
 {
     while desk.is_seeking() {
-        desk.seek(alloc)?;
+        desk.seek(alloc, keys)?;
     }
     Ok(())
 }

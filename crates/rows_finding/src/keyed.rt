@@ -1,6 +1,6 @@
 //! Searches that are asked for by keys, and the screens that they lead to.
 use crate::asking::tell_found;
-use key_screen::{Grid, Key};
+use key_screen::{Base, Grid, Key};
 use mc_text::Path;
 use rows_boxes::{keys_of, tell_screen};
 use rows_page::{Page, two_fields};
@@ -19,7 +19,7 @@ const COLUMNS: u16 = 40;
 const STEPS: usize = 100_000;
 
 /// The screen behind the words of a row: from which folder, how, and keys, where `step` is a step of the
-/// search, and `run` are all.
+/// search, `run` are all, and `C-c` is the key that stops it.
 pub fn tell_key_row<T: Tree>(page: &mut Page, tree: &mut T, row: &str) {
     let (folder, fields) = two_fields(row, '|');
     let (ways, words) = two_fields(fields, '|');
@@ -51,6 +51,12 @@ fn kind_of(ways: &str) -> PatternKind {
     }
 }
 
+/// C-c, the key that stops the search.
+const STOP: Key = Key {
+    meta: false,
+    base: Base::Ctrl(b'c'),
+};
+
 /// Works each word, and shows the screen. What a key comes to stands before it, but where it is
 /// only asked or sought on.
 fn tell_worked<T: Tree>(page: &mut Page, tree: &mut T, mode: &mut FindMode, words: &str) {
@@ -59,6 +65,7 @@ fn tell_worked<T: Tree>(page: &mut Page, tree: &mut T, mode: &mut FindMode, word
             "" => (),
             "step" => step(page, tree, mode),
             "run" => run(page, tree, mode),
+            "C-c" => tell_key(page, tree, mode, STOP),
             _ => tell_keys(page, tree, mode, word),
         }
     }

@@ -1,6 +1,6 @@
 -- What is painted over a screen while things are sought: the line that asks, or the list
 -- of the found paths. Own.
-use Rattle.std.specs.Prelude.{ℕ, Bool, ◌==◌, if◌then◌else◌, List, [], ◌++◌, length}
+use Rattle.std.specs.Prelude.{ℕ, Bool, true, false, ◌==◌, if◌then◌else◌, List, [], ◌++◌, length}
 use Rattle.std.specs.Prelude.{map, take, drop, Option, Some, None, is_some, codes}
 use Rattle.std.specs.Fmt.{decimal}
 use Rattle.key_screen.specs.Grids.{CellGrid}
@@ -27,13 +27,15 @@ abbrev pub found_title : FindingsState → List ℕ
 found_title f =
     ((codes "Found " ++ decimal (length f.found)) ++ more_mark f.has_more) ++ skipped_words f.skipped
 
--- behind that, while the search goes on
-abbrev pub searching_words : Bool → List ℕ
-searching_words searching = if searching then codes ", searching" else []
+-- behind that: which key stops the search, while it goes on, or that it was stopped
+abbrev pub course_words : Bool → Bool → List ℕ
+course_words true stopped = codes ", C-c stops"
+course_words false true = codes ", stopped"
+course_words false false = []
 
 -- the title of the list
 abbrev pub list_title : ListingState → List ℕ
-list_title l = found_title l.findings ++ searching_words (is_some l.search)
+list_title l = found_title l.findings ++ course_words (is_some l.search) l.stopped
 
 -- its lines, of so many columns: the title, and so many paths from the first one shown on, the current one in
 -- reverse

@@ -1,6 +1,6 @@
--- The keys of the list of found paths: those of a list box (after the listboxes of mc(1)), and `s`,
+-- The keys of the list of found paths: those of a list box (after the listboxes of mc(1)), and C-c,
 -- which stops the search. Own.
-use Rattle.std.specs.Prelude.{ℕ, ◌==◌, if◌then◌else◌}
+use Rattle.std.specs.Prelude.{ℕ, false, ◌==◌, if◌then◌else◌}
 use Rattle.key_screen.specs.declared.keys.Key.{Key}
 use Rattle.key_screen.specs.declared.keys.Base.{Base}
 use Rattle.key_screen.specs.declared.keys.Base.TheVariants as key
@@ -11,9 +11,13 @@ use Rattle.ui_find.specs.declared.command.FindCommand.TheVariants.{Move, Choose,
 abbrev pub function_command : ℕ → FindCommand
 function_command number = if number == 10 then Leave else Nothing
 
--- what a character does: `s` stops the search
-abbrev pub character_command : ℕ → FindCommand
-character_command character = if character == 115 then Stop else Nothing
+-- the key that stops the search: C-c
+abbrev pub stop_key : Key
+stop_key = record { meta = false; base = key.Ctrl 99 }
+
+-- what control with a letter does: with `c` it stops the search
+abbrev pub control_command : ℕ → FindCommand
+control_command letter = if letter == 99 then Stop else Nothing
 
 -- what a key without meta does
 abbrev pub base_command : Base → FindCommand
@@ -26,7 +30,7 @@ base_command key.End = Move key.End
 base_command key.Enter = Choose
 base_command key.Escape = Leave
 base_command (key.F number) = function_command number
-base_command (key.Char character) = character_command character
+base_command (key.Ctrl letter) = control_command letter
 base_command other = Nothing
 
 -- what a key does; one with meta does nothing

@@ -1,7 +1,7 @@
 -- The found paths, as a search tells them one after the other, and the list that shows them. Own; what is
 -- found, and in which order, is that of `find_file`.
 use Rattle.std.specs.Prelude.{◌≡◌, ℕ, suc, Bool, false, true, nat_lt, if◌then◌else◌}
-use Rattle.std.specs.Prelude.{List, [], ◌∷◌, ◌++◌, length, Option, Some, None, slice_get}
+use Rattle.std.specs.Prelude.{◌||◌, List, [], ◌∷◌, ◌++◌, length, Option, Some, None, is_some, slice_get}
 use Rattle.mc_text.specs.Routes.{Route}
 use Rattle.tree_trait.specs.declared.file_system.FileSystem.{FileSystem}
 use Rattle.tree_trait.specs.Change.{CallLog, current}
@@ -58,20 +58,22 @@ told_all (found ∷ rest) f =
 
 -- THE LIST
 
--- what is still searched, what was told so far, the position of the current path, and
--- that of the first one shown
+-- what is still searched, whether a key stopped it, what was told so far, the position of the current path,
+-- and that of the first one shown
 pub record ListingState : Type 0 where
   pub search : Option Finder
+  pub stopped : Bool
   pub findings : FindingsState
   pub current : ℕ
   pub first : ℕ
 
 abbrev pub no_listing : ListingState
-no_listing = record { search = None; findings = no_findings; current = 0; first = 0 }
+no_listing = record { search = None; stopped = false; findings = no_findings; current = 0; first = 0 }
 
 -- a search that begins
 abbrev pub begun_search : Finder → ListingState
-begun_search finder = record { search = Some finder; findings = no_findings; current = 0; first = 0 }
+begun_search finder =
+    record { search = Some finder; stopped = false; findings = no_findings; current = 0; first = 0 }
 
 -- what the list comes to on a file system that stays as it is: nothing more, or all that is yet to be found
 abbrev pub comes_to_by : FileSystem → Option Finder → FindingsState → FindingsState
@@ -143,6 +145,6 @@ moved_by page base l =
 abbrev pub chosen_path : ListingState → Option Route
 chosen_path l = slice_get l.findings.found l.current
 
--- nothing more is sought
+-- nothing more is sought, and the list says so where something was; what was found stays
 abbrev pub stopped_search : ListingState → ListingState
-stopped_search l = record l { search = None }
+stopped_search l = record l { search = None; stopped = l.stopped || is_some l.search }

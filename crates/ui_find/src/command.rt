@@ -28,7 +28,7 @@ pub fn find_command(key: Key) -> FindCommand
         }
         Base::Enter => FindCommand::Choose,
         Base::Escape | Base::F(10) => FindCommand::Leave,
-        Base::Char('s') => FindCommand::Stop,
+        Base::Ctrl(b'c') => FindCommand::Stop,
         _ => FindCommand::Nothing,
     }
 }

@@ -1,5 +1,5 @@
 //! The list of the found paths, and the search that goes on beside it.
-ghost use Rattle.std.specs.Prelude.{◌≡◌, ◌≤◌, ◌<◌, ◌^◌, is_some, true, None, Some, OnOk, OnErr};
+ghost use Rattle.std.specs.Prelude.{◌≡◌, ◌≤◌, ◌<◌, ◌^◌, ◌||◌, is_some, true, None, Some, OnOk, OnErr};
 ghost use Rattle.std.specs.Option.{option_map};
 ghost use Rattle.ui_find.specs.Listings.{IsKept, StepLeads, begun_search, chosen_path};
 ghost use Rattle.ui_find.specs.Listings.{moved_by, no_listing, steps_to_end, stopped_search};
@@ -13,10 +13,12 @@ use std::alloc::Global;
 use std::marker::Model;
 use tree_trait::ReadTree;
 
-/// The found paths, of which one is current, and the search that goes on, if one does.
+/// The found paths, of which one is current, the search that goes on, if one does, and whether a key stopped
+/// it.
 #[derive(Debug, Drop)]
 pub struct Listing {
     search: Option<Finder>,
+    is_stopped: bool,
     findings: Findings,
     current: usize,
     first: usize,
@@ -30,6 +32,7 @@ impl Model for Listing {
 
     ghost view = { λ l. record {
       search = l.search;
+      stopped = l.is_stopped;
       findings = l.findings;
       current = l.current;
       first = l.first;
@@ -45,6 +48,7 @@ impl Listing {
     {
         Listing {
             search: None,
+            is_stopped: false,
             findings: Findings::new(alloc),
             current: 0,
             first: 0,
@@ -57,6 +61,7 @@ impl Listing {
     {
         Listing {
             search: Some(finder),
+            is_stopped: false,
             findings: Findings::new(alloc),
             current: 0,
             first: 0,
@@ -125,11 +130,19 @@ impl Listing {
         self.search.is_some()
     }
 
-    /// Ends the search. What was found stays.
+    /// Whether a key stopped the search.
+    pub fn is_stopped(&self) -> bool
+        ensures { result ≡ self.now.stopped }
+    {
+        self.is_stopped
+    }
+
+    /// Stops the search, if one goes on. What was found stays.
     pub fn stop(&mut self)
         ensures { self.new ≡ stopped_search self.old }
     {
         let _findings = &self.findings;
+        self.is_stopped = either(self.is_stopped, self.search.is_some());
         self.search = None;
     }
 
@@ -171,4 +184,11 @@ impl Listing {
     {
         self.first
     }
+}
+
+/// Whether one of two facts holds. The prover keeps no branch of a call.
+fn either(one: bool, other: bool) -> bool
+    ensures { result ≡ (one || other) }
+{
+    one || other
 }

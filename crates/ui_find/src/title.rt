@@ -2,19 +2,19 @@
 ghost use Rattle.std.specs.Prelude.{◌≡◌, ◌++◌, string_bytes, IfOk, OnOk};
 ghost use Rattle.std.specs.Fmt.{decimal};
 ghost use Rattle.ui_find.specs.FindFrames.{found_title as title_of, list_title as title_of_list};
-ghost use Rattle.ui_find.specs.FindFrames.{more_mark, searching_words, skipped_words};
+ghost use Rattle.ui_find.specs.FindFrames.{course_words, more_mark, skipped_words};
 
 use crate::findings::Findings;
 use crate::listing::Listing;
 use mc_text::{NoMemory, Text};
 use std::alloc::{AllocError, Global};
 
-/// What was found so far, and that the search goes on, while it does.
+/// What was found so far, and which key stops the search while it goes on, or that it was stopped.
 pub fn list_title(alloc: Global, listing: &Listing) -> Result<Text, NoMemory>
     ensures { IfOk result (λ title. title ≡ title_of_list listing.now) }
 {
     let Text(mut title) = found_title(alloc, listing.findings())?;
-    push_searching(&mut title, listing.is_searching())?;
+    push_course(&mut title, listing.is_searching(), listing.is_stopped())?;
     Ok(Text(title))
 }
 
@@ -46,11 +46,15 @@ fn push_mark(title: &mut String, has_more: bool) -> Result<(), AllocError>
     Ok(())
 }
 
-fn push_searching(title: &mut String, searching: bool) -> Result<(), AllocError>
-    ensures { OnOk result (string_bytes title.new ≡ string_bytes title.old ++ searching_words searching) }
+fn push_course(title: &mut String, searching: bool, stopped: bool) -> Result<(), AllocError>
+    ensures { OnOk result
+        (string_bytes title.new ≡ string_bytes title.old ++ course_words searching stopped) }
 {
     if searching {
-        return title.push_str(", searching");
+        return title.push_str(", C-c stops");
+    }
+    if stopped {
+        return title.push_str(", stopped");
     }
     Ok(())
 }

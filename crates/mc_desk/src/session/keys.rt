@@ -7,8 +7,10 @@ ghost use Rattle.mc_desk.specs.Tallies.{can_step};
 ghost use Rattle.mc_desk.specs.KeysAndFaults.{keys_in};
 ghost use Rattle.mc_desk.specs.Desks.{BlamesScreen, CountsByte, FailsClosed, IsUncut, ShowsDesk};
 ghost use Rattle.mc_desk.specs.Desks.{is_over, seeks, HasTaken, TakesByte, KeepsKeys};
+ghost use Rattle.mc_desk.specs.Desks.{MayTake};
+ghost use Rattle.mc_desk.specs.Sessions.{MayWork};
 ghost use Rattle.mc_ui.specs.Seekings.{is_seeking};
-ghost use Rattle.mc_desk.specs.Searches.{steps_ahead};
+ghost use Rattle.mc_desk.specs.Searches.{KeepsSource, steps_ahead};
 
 use super::Session;
 use crate::carrying::{Carried, carry_out};
@@ -22,7 +24,7 @@ use key_screen::{Base, Fed, Key};
 use session_entries::{Entry, Event, Refusals};
 use session_log::plain_entry;
 use std::alloc::Global;
-use tree_trait::{Sink, SinkError, Spawner, Tree};
+use tree_trait::{Sink, SinkError, Source, Spawner, Tree};
 
 impl<N: Tag, T: Tree, S: Sink, P: Spawner> Session<N, T, S, P> {
     /// Takes a byte and works the keys that it completes; the reply is that of the last. Each is drawn.
@@ -30,7 +32,7 @@ impl<N: Tag, T: Tree, S: Sink, P: Spawner> Session<N, T, S, P> {
     /// session. One that is closed, or whose end was asked, takes no byte and answers `Quit`.
     pub fn byte(&mut self, alloc: Global, byte: u8, now: u64) -> Result<DeskReply, DeskError>
         requires looked { self.old.tally.due ≡ None }
-        requires sought { seeks self.old ≡ false }
+        requires sought { MayTake byte self.old }
         requires uncut { IsUncut self.old }
         ensures shows { OnOk result (self.new.tally.closed ≡ false → ShowsDesk self.new) }
         ensures uncut { IsUncut self.new }
@@ -123,10 +125,10 @@ impl<N: Tag, T: Tree, S: Sink, P: Spawner> Session<N, T, S, P> {
         Ok(())
     }
 
-    /// Makes steps of the search that goes on, a hundred at most, and draws. Where none goes on
-    /// all stays as it is. Where memory is wanting for a step the session is closed, once what
-    /// was found by then is drawn.
-    pub fn seek(&mut self, alloc: Global) -> Result<(), DeskError>
+    /// Makes steps of the search that goes on, to its end, or to where C-c waits in the source, or 50,000,
+    /// and draws. Where none goes on all stays as it is. Where memory is wanting for a step the session is
+    /// closed, once what was found by then is drawn.
+    pub fn seek<K: Source>(&mut self, alloc: Global, keys: &mut K) -> Result<(), DeskError>
         requires looked { self.old.tally.due ≡ None }
         requires uncut { IsUncut self.old }
         ensures shows { OnOk result (self.new.tally.closed ≡ false → ShowsDesk self.new) }
@@ -138,6 +140,8 @@ impl<N: Tag, T: Tree, S: Sink, P: Spawner> Session<N, T, S, P> {
         ensures nearer { OnOk result (seeks self.old ≡ true
             → steps_ahead self.new.screen < steps_ahead self.old.screen) }
         ensures over { seeks self.old ≡ false → self.new ≡ self.old }
+        ensures source { KeepsSource (K.left keys.old) (K.left keys.new) (K.fault_count keys.old)
+            (K.fault_count keys.new) }
         ensures fails { IfErr result (λ error. FailsClosed error self.old self.new) }
         ensures unclosed { OnOk result (self.new.tally.closed ≡ self.old.tally.closed) }
         ensures quit { self.new.quit ≡ self.old.quit }
@@ -153,6 +157,7 @@ impl<N: Tag, T: Tree, S: Sink, P: Spawner> Session<N, T, S, P> {
             alloc,
             &mut self.ui,
             &mut self.tree,
+            keys,
             &self.standing.job,
             &self.log,
             &mut self.terminal,
@@ -169,6 +174,13 @@ impl<N: Tag, T: Tree, S: Sink, P: Spawner> Session<N, T, S, P> {
         ensures { result ≡ seeks self.now }
     {
         !self.standing.closed && !self.standing.quit && self.ui.is_seeking()
+    }
+
+    /// Whether the next byte begins a key.
+    pub fn is_between_keys(&self) -> bool
+        ensures { result ≡ true → self.now.pending ≡ [] }
+    {
+        self.keys.pending() == 0
     }
 
     /// What is to be looked at before the next byte: the job of this number, or 0 for the opening frame.
@@ -198,7 +210,7 @@ impl<N: Tag, T: Tree, S: Sink, P: Spawner> Session<N, T, S, P> {
         requires unclosed { self.old.tally.closed ≡ false }
         requires unasked { self.old.quit ≡ false }
         requires looked { self.old.tally.due ≡ None }
-        requires sought { is_seeking self.old.screen ≡ false }
+        requires sought { MayWork key self.old.screen }
         requires room { 4 ≤ self.old.spare }
         requires uncut { self.old.out.put.is_cut ≡ false }
         ensures shows { OnOk result (self.new.tally.closed ≡ false → ShowsDesk self.new) }
@@ -258,7 +270,7 @@ impl<N: Tag, T: Tree, S: Sink, P: Spawner> Session<N, T, S, P> {
         requires unclosed { self.old.tally.closed ≡ false }
         requires unasked { self.old.quit ≡ false }
         requires looked { self.old.tally.due ≡ None }
-        requires sought { is_seeking self.old.screen ≡ false }
+        requires sought { MayWork key self.old.screen }
         requires room { 3 ≤ self.old.spare }
         requires uncut { self.old.out.put.is_cut ≡ false }
         ensures screen { self.new.screen ≡ self.old.screen }

@@ -8,7 +8,7 @@ pub returns-in_err-seek-clause-sought : goal.returns-in_err-seek-clause-sought
 returns-in_err-seek-clause-sought g c =
     let was = c.loop-ui.invariant in
     let seeking : is_seeking c.loop-ui.ui ≡ true = search rules in
-    let few : c.loop-ui.steps + 1 ≤ 100 = search rules in
+    let few : c.loop-ui.steps + 1 ≤ 50000 = search rules in
     record {
       steps = c.loop-ui.steps + 1;
       some = omega arith;
@@ -21,7 +21,7 @@ pub loop-ui-preserved : goal.loop-ui-preserved
 loop-ui-preserved g c =
     let was = c.loop-ui.invariant in
     let seeking : is_seeking c.loop-ui.ui ≡ true = search rules in
-    let few : c.loop-ui.steps + 1 ≤ 100 = search rules in
+    let few : c.loop-ui.steps + 1 ≤ 50000 = search rules in
     record {
       made = one_step_more false c.loop-ui.steps (g.T.ReadTree.contents c.args.tree.now) (g.T.ReadTree.contents c.loop-ui.tree) was.same (g.T.ReadTree.fault_count c.args.tree.now) (g.T.ReadTree.fault_count c.loop-ui.tree)
           (g.T.ReadTree.fault_count c.seek.new.tree) c.args.ui.now c.loop-ui.ui c.seek.new.self was.made seeking (inl c.in_ok-seek.ensures.leads) c.seek.ensures.kept c.seek.ensures.rest c.seek.ensures.later;
@@ -30,6 +30,7 @@ loop-ui-preserved g c =
       size = record { same_lines = c.seek.ensures.size.same_lines ∙ was.size.same_lines; same_columns = c.seek.ensures.size.same_columns ∙ was.size.same_columns };
       same = c.seek.ensures.same ∙ was.same;
       later = let before = was.later in let after = c.seek.ensures.later in omega (arith, before, after);
+      source = (c.is_stopped.ensures.source.0 ∙ was.source.0, c.is_stopped.ensures.source.1 ∙ was.source.1);
       none = λ h. absurd (not_none c.loop-ui.steps h);
       nearer = λ some. left_fewer c.loop-ui.steps c.args.ui.now c.loop-ui.ui c.seek.new.self was.none was.nearer (c.in_ok-seek.ensures.falls seeking);
     }

@@ -7,11 +7,14 @@ use Rattle.mc_main.proofs.session.take_turn.Goals as goal
 
 pub returns-in-Ok-None-clause-ended : goal.returns-in-Ok-None-clause-ended
 returns-in-Ok-None-clause-ended g c ended known is =
-    took_all g.N.Tag.stream (g.K.Source.left c.args.keys.now) (g.K.Source.left c.take_byte.new.keys) c.args.desk.now.taken c.requires.left
+    let before = g.K.Source.left c.seek_till_stopped.new.keys in
+    took_all g.N.Tag.stream before (g.K.Source.left c.take_byte.new.keys) c.args.desk.now.taken (c.seek_till_stopped.ensures.source.0 ∙ c.requires.left)
     (λ b k. sym c.in-Ok-None.field-0-is ∙ c.in-Ok-None.ensures.first b k)
-    (c.in-Ok-None.ensures.left ∙ ap (λ (o : Option ℕ). left_of (g.K.Source.left c.args.keys.now) (bytes_given (let r : Result (Option ℕ) SourceFault = Ok o in r))) c.in-Ok-None.field-0-is) known is
+    (c.in-Ok-None.ensures.left ∙ ap (λ (o : Option ℕ). left_of before (bytes_given (let r : Result (Option ℕ) SourceFault = Ok o in r))) c.in-Ok-None.field-0-is) known is
 
 pub byte-requires-clause-next : goal.byte-requires-clause-next
 byte-requires-clause-next g c known is =
-    next_byte g.N.Tag.stream (g.K.Source.left c.args.keys.now) c.seek_to_end.new.desk.taken c.in-Ok-Some.byte (c.requires.left ∙ ap (left_of g.N.Tag.stream) (sym (c.seek_to_end.ensures.keys.taken ∙ c.work_due.ensures.keys.taken)))
+    let before = g.K.Source.left c.seek_till_stopped.new.keys in
+    next_byte g.N.Tag.stream before c.seek_before.new.desk.taken c.in-Ok-Some.byte
+    (c.seek_till_stopped.ensures.source.0 ∙ (c.requires.left ∙ ap (left_of g.N.Tag.stream) (sym (c.seek_before.ensures.keys.taken ∙ (c.seek_till_stopped.ensures.keys.taken ∙ c.work_due.ensures.keys.taken)))))
     (λ b k. sym c.in-Ok-Some.field-0-is ∙ c.in-Ok-Some.ensures.first b k) known is

@@ -1,10 +1,22 @@
 -- The keys that a byte completes are worked, all or but the last.
-use Rattle.std.proofs.Common.{rules, ◌≡◌, ◌+◌, ◌∷◌, ◌++◌, [], None, ap, subst, ◌∙◌}
+use Rattle.std.proofs.Common.{rules, ◌≡◌, ◌+◌, ◌∷◌, ◌++◌, [], false, None, ap, sym, subst, ◌∙◌}
 use Rattle.key_screen.specs.DecodedKeys.{decoded_keys, keys_fed}
 use Rattle.mc_desk.specs.KeysAndFaults.{keys_in}
 use Rattle.mc_desk.specs.Desks.{Seen}
+use Rattle.mc_desk.specs.Sessions.{MayWork}
+use Rattle.mc_desk.proofs.Stopping.{first_may}
 use Rattle.mc_desk.proofs.Taking.{takes_none, takes_one, takes_two, lacks_second}
 use Rattle.mc_desk.proofs.session.Session.byte.Goals as goal
+
+pub work_key-reply-requires-clause-sought : goal.work_key-reply-requires-clause-sought
+work_key-reply-requires-clause-sought g c =
+    let old = c.args.self.now in
+    let now : decoded_keys (old.pending ++ c.args.byte ∷ []) ≡ record { keys = keys_fed c.feed-first.result; rest = c.feed-first.new.self } =
+    subst (λ p. decoded_keys (p ++ c.args.byte ∷ []) ≡ record { keys = keys_fed c.feed-first.result; rest = c.feed-first.new.self }) (ap (λ (d : Seen). d.pending) c.self.view_is) c.feed-first.ensures.keys in
+    let unclosed : old.tally.closed ≡ false = search rules in
+    let unasked : old.quit ≡ false = search rules in
+    let may : MayWork c.in-Some-first.first old.screen = first_may old c.args.byte c.feed-first.result c.feed-first.new.self c.in-Some-first.first c.requires.sought unclosed unasked now c.in-Some-first.is in
+    subst (λ (d : Seen). MayWork c.in-Some-first.first d.screen) (sym c.self.view_is) may
 
 pub returns-in_default-first-clause-keys : goal.returns-in_default-first-clause-keys
 returns-in_default-first-clause-keys g c goes bytes taken =

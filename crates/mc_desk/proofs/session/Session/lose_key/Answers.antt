@@ -1,8 +1,8 @@
 -- The key is written down as lost, and the desk closed.
-use Rattle.std.proofs.Common.{rules, ◌≡◌, ◌≤◌, ◌∷◌, false, true, None, refl, ap, ◌∙◌, arith}
+use Rattle.std.proofs.Common.{rules, ◌≡◌, ◌≤◌, ◌∷◌, false, true, None, refl, ap, sym, subst, ◌∙◌, arith}
 use Rattle.session_entries.specs.declared.history.Entry.{Entry}
 use Rattle.session_entries.specs.declared.history.Event.TheVariants.{Closed, Key}
-use Rattle.mc_ui.specs.Seekings.{is_seeking}
+use Rattle.mc_desk.specs.Sessions.{MayWork}
 use Rattle.mc_desk.specs.Desks.{Seen}
 use Rattle.session_log.specs.Logs.{plain_entry}
 use Rattle.mc_desk.specs.Standings.{awaited_look}
@@ -16,7 +16,7 @@ invariant_of-self g c =
     let unclosed : inside.standing.closed ≡ false = ap (λ (d : Seen). d.tally.closed) c.self.view_is ∙ c.requires.unclosed in
     let unasked : inside.standing.quit ≡ false = ap (λ (d : Seen). d.quit) c.self.view_is ∙ c.requires.unasked in
     let looked : awaited_look inside.standing.due ≡ None = ap (λ (d : Seen). d.tally.due) c.self.view_is ∙ c.requires.looked in
-    let sought : is_seeking inside.ui ≡ false = ap (λ (d : Seen). is_seeking d.screen) c.self.view_is ∙ c.requires.sought in
+    let sought : MayWork c.args.key inside.ui = subst (λ (d : Seen). MayWork c.args.key d.screen) (sym c.self.view_is) c.requires.sought in
     let uncut : inside.terminal.put.is_cut ≡ false = ap (λ (d : Seen). d.out.put.is_cut) c.self.view_is ∙ c.requires.uncut in
     let count = c.faults-faults.result in
     let counted = c.faults-faults.ensures in

@@ -4,6 +4,7 @@ use Rattle.session_entries.specs.declared.history.Event.TheVariants.{Key}
 use Rattle.mc_ui.specs.Seekings.{is_seeking}
 use Rattle.mc_desk.specs.Desks.{IsDesk, Seen, ShowsDesk, seen_of}
 use Rattle.mc_desk.specs.Granting.{IsWorked}
+use Rattle.mc_desk.specs.Sessions.{MayWork}
 use Rattle.session_log.specs.Told.{waits_told}
 use Rattle.mc_desk.specs.LiveRows.{rows_of}
 use Rattle.mc_desk.specs.Outputs.{ShowsFrame}
@@ -13,7 +14,7 @@ use Rattle.session_log.specs.Logs.{entries_with_event}
 use Rattle.mc_desk.specs.Standings.{after_deed, awaited_look, event_of}
 use Rattle.mc_desk.specs.Tallies.{next_id}
 use Rattle.mc_desk.proofs.Adding.{entry}
-use Rattle.mc_desk.proofs.Carried.{unknown_due, unknown_sought}
+use Rattle.mc_desk.proofs.Carried.{none_unknown, unknown_due, unknown_sought}
 use Rattle.mc_desk.proofs.Showing.{ended_uncut, fits_after, shows_drawn, waits_followed}
 use Rattle.mc_desk.proofs.Worked.{desk_worked, may_carry_out}
 use Rattle.mc_desk.proofs.session.Session.work_key.Goals as goal
@@ -25,7 +26,7 @@ invariant_of-self-2 g c =
     let unclosed : inside.standing.closed ≡ false = ap (λ (d : Seen). d.tally.closed) c.self.view_is ∙ c.requires.unclosed in
     let unasked : inside.standing.quit ≡ false = ap (λ (d : Seen). d.quit) c.self.view_is ∙ c.requires.unasked in
     let looked : awaited_look inside.standing.due ≡ None = ap (λ (d : Seen). d.tally.due) c.self.view_is ∙ c.requires.looked in
-    let sought : is_seeking inside.ui ≡ false = ap (λ (d : Seen). is_seeking d.screen) c.self.view_is ∙ c.requires.sought in
+    let sought : MayWork c.args.key inside.ui = subst (λ (d : Seen). MayWork c.args.key d.screen) (sym c.self.view_is) c.requires.sought in
     let count = c.faults-faults.result in
     let counted = c.faults-faults.ensures in
     let had = c.self.invariant.counted in
@@ -90,6 +91,7 @@ returns-clause-unasked g c unknown =
 
 pub returns-clause-sought : goal.returns-clause-sought
 returns-clause-sought g c unknown =
-    let sought : is_seeking c.self.inside.ui ≡ false = ap (λ (d : Seen). is_seeking d.screen) c.self.view_is ∙ c.requires.sought in
+    let may : MayWork c.args.key c.self.inside.ui = subst (λ (d : Seen). MayWork c.args.key d.screen) (sym c.self.view_is) c.requires.sought in
+    let sought : is_seeking c.self.inside.ui ≡ false = none_unknown c.args.key c.self.inside.ui unknown may in
     ap (λ (d : Seen). is_seeking d.screen) c.in_ok-after_draw.ensures.same
     ∙ unknown_sought _ c.in-Ok.rows c.next_id-next.result c.args.now c.args.key c.self.inside.ui c.work.new.ui c.in-Ok-work.granted.deed c.in-Ok-work.granted.refusals unknown sought c.in-Ok-work.ensures.worked
