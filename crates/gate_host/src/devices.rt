@@ -1,7 +1,8 @@
-//! The other devices: the shell, the keyboard, the clock; and a fault that is counted.
+//! The other devices: the shell, the keyboard, the size of the screen, the clock; and a fault that is counted.
+use host_devices::size_in;
 use mc_text::Path;
 use rows_page::{Page, two_fields};
-use tree_trait::{Clock, Source, Spawner, Tree};
+use tree_trait::{Clock, Sink, Source, Spawner, Tree};
 
 /// A command behind its folder, with its status and what it wrote.
 pub fn tell_command<P: Spawner>(page: &mut Page, shell: &mut P, row: &str) {
@@ -54,11 +55,12 @@ fn tell_fault_of<T: Tree>(page: &mut Page, tree: &mut T, folder: &Path) {
     page.tell(format_args!("sync_folder /proc = {answer:?}, faults {before} and {after}\n"));
 }
 
-/// What the keyboard gives, at most three bytes at a time, to its end.
+/// What the keyboard gives, at most three bytes at a time, to its end. It is no terminal, so before each it
+/// doesn't say which byte is the next one.
 pub fn tell_keyboard<K: Source>(page: &mut Page, keys: &mut K) {
     page.put("keyboard");
-    for _ in 0..4 {
-        page.put(" ");
+    for next in [b'a', b'd', b'\n', 0] {
+        page.tell(format_args!(" {} ", keys.next_is(next)));
         tell_taken(page, keys);
     }
     page.tell(format_args!(", faults {}\n", keys.faults()));
@@ -70,6 +72,17 @@ fn tell_taken<K: Source>(page: &mut Page, keys: &mut K) {
         Ok(count) => tell_text(page, &into[..count]),
         Err(_error) => page.fail(),
     }
+}
+
+/// What the screen says of its size: nothing, since the input is no terminal.
+pub fn tell_screen<S: Sink>(page: &mut Page, screen: &mut S) {
+    let size = screen.size();
+    page.tell(format_args!("screen size {size:?}, faults {}\n", screen.faults()));
+}
+
+/// The lines and columns in what `stty size` might say.
+pub fn tell_size(page: &mut Page, said: &str) {
+    page.tell(format_args!("stty size {said:?} = {:?}\n", size_in(said)));
 }
 
 /// Whether the clock stands after November 2023.

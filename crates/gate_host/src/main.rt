@@ -9,8 +9,8 @@ mod devices;
 mod rows;
 mod scenes;
 
-use crate::devices::{tell_clock, tell_command, tell_fault, tell_keyboard};
-use crate::rows::{commands, scenes};
+use crate::devices::{tell_clock, tell_command, tell_fault, tell_keyboard, tell_screen, tell_size};
+use crate::rows::{commands, scenes, sizes};
 use crate::scenes::tell_scene;
 use host_devices::{HostClock, ShSpawner, StdinSource, StdoutSink};
 use host_tree::HostTree;
@@ -40,6 +40,10 @@ fn tell_scenes(page: &mut Page, rt: HostRuntime, here: &str) {
 fn tell_devices(page: &mut Page, rt: HostRuntime) {
     tell_fault(page, &mut HostTree::new(rt));
     tell_keyboard(page, &mut StdinSource::new(rt));
+    tell_screen(page, &mut StdoutSink::new(rt));
+    for said in sizes() {
+        tell_size(page, said);
+    }
     tell_clock(page, &HostClock::new(rt));
 }
 

@@ -253,3 +253,8 @@ const COMMANDS: &str = "/usr pwd; echo here >&2; cat; exit 3
 /usr kill -9 $$
 /usr head -c 1048576 /dev/zero; head -c 2000000 /dev/zero | tr '\\0' 1
 /nowhere pwd";
+
+/// What `stty size` might say.
+pub fn sizes() -> [&'static str; 6] {
+    ["24 80\n", "0 0\n", "65535 65536\n", "80\n", "24 80 2\n", ""]
+}

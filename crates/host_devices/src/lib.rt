@@ -7,10 +7,12 @@ mod cause;
 mod device;
 mod faults;
 mod host_clock;
+mod keyboard;
 mod read;
 mod sh_spawner;
 mod stdin_source;
 mod stdout_sink;
+mod stty;
 
 pub use cause::{answer_of, cause_of, naming_cause_of};
 pub use device::Device;
@@ -20,3 +22,4 @@ pub use read::{TURNS, read_once};
 pub use sh_spawner::{Sh, ShSpawner};
 pub use stdin_source::StdinSource;
 pub use stdout_sink::{Stdout, StdoutSink};
+pub use stty::size_in;

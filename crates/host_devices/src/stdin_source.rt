@@ -2,16 +2,17 @@
 ghost use Rattle.std.specs.Prelude.{◌≡◌, None};
 
 use crate::faults::Faults;
-use crate::read::read_once;
+use crate::keyboard::Keyboard;
 use std::io::Input;
 use std::marker::Model;
+use std::process::Processes;
 use tree_trait::{Source, SourceFault};
 
 /// The standard input. Contracts see how often it has failed. It tells nothing of the
 /// bytes that are still to come.
 #[derive(Drop)]
 pub struct StdinSource<R: Input> {
-    reader: R::Reader,
+    keyboard: Keyboard<R>,
     faults: Faults,
 }
 
@@ -23,25 +24,25 @@ impl<R: Input> Model for StdinSource<R> {
     ghost view = { λ s. s.faults };
 }
 
-impl<R: Input + Drop> StdinSource<R> {
+impl<R: Input> StdinSource<R> {
     /// The standard input that this runtime reaches. It takes no memory.
     pub fn new(rt: R) -> StdinSource<R>
         ensures { result ≡ 0 }
     {
         StdinSource {
-            reader: rt.reader(),
+            keyboard: Keyboard::new(rt),
             faults: Faults::new(),
         }
     }
 }
 
-impl<R: Input> Source for StdinSource<R> {
+impl<R: Input + Processes + AllocGlobal> Source for StdinSource<R> {
     ghost left = { λ _. None };
 
     ghost fault_count = { λ count. count };
 
     fn take(&mut self, into: &mut [u8]) -> Result<usize, SourceFault> {
-        match read_once(&mut self.reader, into) {
+        match self.keyboard.read(into) {
             Ok(count) => Ok(count),
             Err(_) => {
                 self.faults.raise();
@@ -50,8 +51,8 @@ impl<R: Input> Source for StdinSource<R> {
         }
     }
 
-    fn next_is(&mut self, _byte: u8) -> bool {
-        false
+    fn next_is(&mut self, byte: u8) -> bool {
+        self.keyboard.next_is(byte)
     }
 
     fn faults(&self) -> u64 {

@@ -3,7 +3,9 @@ ghost use Rattle.std.specs.Prelude.{None};
 
 use crate::cause::cause_of;
 use crate::device::Device;
+use crate::stty::terminal_size;
 use std::alloc::Global;
+use std::process::Processes;
 use tree_trait::{Sink, SinkError, TreeError};
 
 /// The standard output, as a device.
@@ -13,7 +15,7 @@ pub struct Stdout;
 /// The standard output. It tells nothing of the bytes that it was given.
 pub type StdoutSink<R> = Device<Stdout, R>;
 
-impl<R: Print> Sink for Device<Stdout, R> {
+impl<R: Print + Processes + AllocGlobal> Sink for Device<Stdout, R> {
     ghost given = { λ _. None };
 
     ghost fault_count = { λ count. count };
@@ -30,7 +32,7 @@ impl<R: Print> Sink for Device<Stdout, R> {
     }
 
     fn size(&mut self) -> Option<(u16, u16)> {
-        None
+        terminal_size(&self.rt)
     }
 
     fn faults(&self) -> u64 {

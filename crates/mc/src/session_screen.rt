@@ -5,6 +5,7 @@ ghost use Rattle.std.specs.Prelude.{◌≡◌, None};
 use host_devices::StdoutSink;
 use std::alloc::Global;
 use std::marker::Model;
+use std::process::Processes;
 use tree_trait::{Sink, SinkError};
 
 /// The standard output. Before its first frame, which begins with an escape, it goes to the terminal's other
@@ -41,7 +42,7 @@ impl<R> SessionScreen<R> {
     }
 }
 
-impl<R: Print> Sink for SessionScreen<R> {
+impl<R: Print + Processes + AllocGlobal> Sink for SessionScreen<R> {
     ghost given = { λ _. None };
 
     ghost fault_count = { λ count. count };

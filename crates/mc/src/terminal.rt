@@ -2,6 +2,7 @@
 use crate::surroundings::fill_size;
 use mc_main::{Env, Printed};
 use std::io;
+use std::io::ErrorKind;
 use std::process::{Command, Stdio};
 
 /// What a run did to the terminal, and so what has to be done at its end.
@@ -22,39 +23,35 @@ pub fn put_usage(rt: &HostRuntime) -> io::Result<()> {
 }
 
 /// Lets each byte of the keyboard come at once, and not be shown. Before that the terminal says what it is
-/// like, and how large it is where the environment doesn't say that; one shell asks it all.
+/// like, and by the command that makes it raw how large it is, where the environment doesn't say that.
 pub fn make_raw(rt: &HostRuntime, env: &mut Env) -> TerminalChange {
+    let modes = stty_output(rt, &["-g"]);
     let size_wanted = env.lines.is_none() || env.columns.is_none();
-    let Ok(said) = ask_and_make_raw(rt, size_wanted) else {
-        return TerminalChange::Raw;
-    };
-    let (size, modes) = said.as_str().split_once('\n').unwrap_or(("", ""));
-    let _filled = fill_size(rt.alloc(), env, size);
-    let modes = modes.trim();
-    if modes.is_empty() {
-        return TerminalChange::Raw;
+    if size_wanted && let Ok(size) = stty_output(rt, &["size", "raw", "-echo"]) {
+        let _filled = fill_size(rt.alloc(), env, size.as_str());
+    } else {
+        // Also where a terminal that has no size was left as it is for want of one.
+        let _raw = stty(rt, &["raw", "-echo"]);
     }
-    match String::from_str(rt.alloc(), modes) {
+    match modes {
         Ok(modes) => TerminalChange::RawAfter(modes),
         Err(_) => TerminalChange::Raw,
     }
 }
 
-/// Makes the terminal raw. Answers what it said before, of its size in a line, which is empty where it isn't
-/// asked or says nothing, and then of its modes, in one word that `stty` reads again.
-fn ask_and_make_raw(rt: &HostRuntime, size_wanted: bool) -> io::Result<String> {
-    let script = if size_wanted {
-        "stty size || echo; stty -g; stty raw -echo"
-    } else {
-        "echo; stty -g; stty raw -echo"
-    };
-    let said = Command::new(rt.alloc(), "sh")?
-        .arg("-c")?
-        .arg(script)?
+/// What `stty` says to these words, without the end of its line.
+fn stty_output(rt: &HostRuntime, words: &[&str]) -> io::Result<String> {
+    let said = Command::new(rt.alloc(), "stty")?
+        .args(words)?
         .stdin(Stdio::inherit())
         .stderr(Stdio::null())
         .output(rt)?;
-    let text = std::str::from_utf8(said.stdout.as_slice()).unwrap_or("");
+    let text = std::str::from_utf8(said.stdout.as_slice())
+        .unwrap_or("")
+        .trim();
+    if !said.status.success() || text.is_empty() {
+        return Err(io::Error::from(ErrorKind::Unsupported));
+    }
     Ok(String::from_str(rt.alloc(), text)?)
 }
 
