@@ -22,7 +22,7 @@ use Rattle.laws_crash.proofs.Tops.{none_below, under_made, under_moved, under_re
 use Rattle.laws_sessions.specs.Doubt.{is_pending, name_waits, is_joint}
 use Rattle.laws_sessions.proofs.Changing.{none_below_file, said_one, said_two, some_is, some_none}
 use Rattle.laws_sessions.proofs.Untouched.{IsAsFound, IsBare, found_bare, IsUntouched, NoneOver, none_joint, none_waits, over_it, untouched_free, way_sure}
-use Rattle.laws_sessions.proofs.Knowing.{IsCalmIn, IsKept, HistoryFacts}
+use Rattle.laws_sessions.proofs.Knowing.{HasCalmMode, IsKept, HistoryFacts}
 use Rattle.laws_sessions.proofs.Pending.{is_within, pending_less, quiet_within}
 use Rattle.laws_sessions.proofs.Resting.{IsOfFiles, IsSureFolder, bare_unjoined, folder_at, folder_at_of, stands_at, sure_path, sure_still, unjoined_at}
 use Rattle.laws_sessions.proofs.Restless.{IsUnjoined, joint_before}
@@ -62,11 +62,11 @@ met_untouched told dirty marks log up coming name kept filling among free =
 
 -- and where no folder stands, it is as it was found
 pub met_found : (told : HistoryFacts) (dirty : List Route) (marks : Marks) (log : CallLog) (up : Route) (coming : List (List ℕ)) (name : List ℕ) → IsKept told dirty marks log → IsFilling log up coming → Among coming name
-    → IsBare (current log) (name ∷ up) → IsCalmIn marks (current log) up → IsAsFound marks (current log) (name ∷ up)
+    → IsBare (current log) (name ∷ up) → HasCalmMode marks (current log) (name ∷ up) → IsAsFound marks (current log) (name ∷ up)
 met_found told dirty marks log up coming name kept filling among bare calm =
     let firm = filling.firm in
     found_bare told dirty marks log (name ∷ up) kept (sure_path log (name ∷ up) firm.sure (filling.calm name among)) bare
-    (λ i at. elim (calm name i at) [ inl none ↦ none | inr begins ↦ absurd (both_ways _ (bare i at) (kept.known.guarded.tree.mounts i begins)) ])
+    (λ i at. elim (calm i at) [ inl none ↦ none | inr begins ↦ absurd (both_ways _ (bare i at) (kept.known.guarded.tree.mounts i begins)) ])
 
 -- fewer names are yet to be met
 pub filling_fewer : (log : CallLog) (up : Route) (coming fewer : List (List ℕ)) → ((name : List ℕ) → Among fewer name → Among coming name) → IsFilling log up coming → IsFilling log up fewer

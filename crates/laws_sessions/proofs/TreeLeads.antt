@@ -40,7 +40,7 @@ use Rattle.laws_sessions.proofs.OpenFolders.{AroundKnow, InnerKnows, LevelsKnow}
 use Rattle.laws_sessions.proofs.OwedModes.{OwedModes}
 use Rattle.laws_sessions.proofs.PartTexts.{TextKnown}
 use Rattle.laws_sessions.proofs.TreeGoing.{LogHas, log_goes, steps_stand}
-use Rattle.laws_sessions.proofs.TreeKnown.{AroundKnows, ItemHas, TreeHas, TreeKnown, TreeStands, copy_known, LiesOutside}
+use Rattle.laws_sessions.proofs.TreeKnown.{ItemHas, TargetKnows, TreeHas, TreeKnown, TreeStands, copy_known, LiesOutside}
 use Rattle.laws_sessions.proofs.Resting.{unjoined_below}
 use Rattle.laws_sessions.proofs.Restless.{IsUnjoined}
 use Rattle.laws_sessions.proofs.Untouched.{NoneOn, none_joint, none_on, none_over, none_waits}
@@ -137,7 +137,7 @@ module _ (told : HistoryFacts) (dirty dirty_after : List Route) (marks : Marks) 
 
   -- once something was changed
   pub tree_then : LiesOutside c.top → LogHas c.top log c.at → (after : HistoryFacts) (course : Course) (m : Marks) → OwedModes after.tree new.at → after.folders (folder_of c.top.target) ≡ true → ItemHas after dirty_after m (current now) course new.at.item
-      → AroundKnows after m (current now) new → TreeKnown after dirty_after m now course new
+      → TargetKnows after m (current now) new → TreeKnown after dirty_after m now course new
   tree_then outside has after course m modes folder part around =
       let has_now = log_goes free replies c new did count dirty dirty_after log now f0 f1 s kept.known.guarded.tree kept.known.files has in
       let copy = has_now.copy in
