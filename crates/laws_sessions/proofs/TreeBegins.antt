@@ -44,7 +44,7 @@ use Rattle.laws_sessions.proofs.TreeKnows.{filled_inner}
 use Rattle.laws_sessions.proofs.TreeLeads.{first_has, log_has}
 use Rattle.laws_sessions.proofs.TreeSteps.{next_of}
 use Rattle.laws_sessions.proofs.Untouched.{NoneOn, none_on, none_over, way_sure}
-use Rattle.laws_sessions.proofs.WaitsAlone.{WaitsAlone, alone_unjoined}
+use Rattle.laws_sessions.proofs.WaitsAlone.{WaitsAlone}
 
 -- a thing that is taken up: it stands, nothing stands at its target, or a file or a link, and the folder that is to hold that stands
 pub record Meets (log : CallLog) (pair : Pair) : Type 0 where
@@ -81,7 +81,7 @@ none_left (suc n) old mid (last, all, none, one) outermost =
 -- the names at and below the target of a copy wait for the syncs of their own folders alone
 own_alone : (top : Pair) (log : CallLog) (c : Seen) → LogHas top log c → (p : Route) → is_prefix top.target p ≡ true → WaitsAlone log p
 own_alone top log c has [] own = tt
-own_alone top log c has (name ∷ q) own = alone_unjoined log name q (has.names [] q (in_or_below top.target (name ∷ q) own)).1
+own_alone top log c has (name ∷ q) own = (has.names name q (in_or_below top.target (name ∷ q) own)).1
 
 module _ (told : HistoryFacts) (dirty : List Route) (marks : Marks) (log : CallLog) (kept : IsKept told dirty marks log) (c : SubtreeCopying) (mid : Seen) (n : ℕ) (leaves : LeavesAll n c.at mid) (stands : TreeStands dirty c)
     (none : mid.item ≡ Next) (pair : Pair) (next : due mid ≡ Thing pair) (meets : Meets log pair) where

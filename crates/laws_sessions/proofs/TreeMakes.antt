@@ -38,11 +38,10 @@ use Rattle.laws_sessions.proofs.Knowing.{IsKept, IsKnown, HistoryFacts, nowhere,
 use Rattle.laws_sessions.proofs.PathsBelow.{is_below}
 use Rattle.laws_sessions.proofs.Resting.{folder_at, folder_at_of}
 use Rattle.laws_sessions.proofs.Stepped.{comes_one, said_after}
-use Rattle.laws_sessions.proofs.StepsKnown.{among_next}
 use Rattle.laws_sessions.proofs.TreeBefore.{Before, Result, Then, idle_quiet}
 use Rattle.laws_sessions.proofs.TreeBegins.{here_moved, within, within_kept, MayChange, Meets, may_change_now, worked_filled}
 use Rattle.laws_sessions.proofs.TreeKnown.{ItemHas}
-use Rattle.laws_sessions.proofs.TreeSteps.{IsNextOf, next_of}
+use Rattle.laws_sessions.proofs.TreeSteps.{IsNextOf, among_next, next_of}
 use Rattle.laws_sessions.proofs.TreeOwed.{free_owes}
 use Rattle.laws_sessions.proofs.TreeListed.{list_joins, list_stays, no_part}
 use Rattle.copy_tree.specs.Taking.{IsTaken}

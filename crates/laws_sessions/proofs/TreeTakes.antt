@@ -40,12 +40,11 @@ use Rattle.laws_sessions.proofs.KnownParts.{FileKnows, HasName}
 use Rattle.laws_sessions.proofs.PathsBelow.{is_below}
 use Rattle.laws_sessions.proofs.Resting.{IsSureFolder}
 use Rattle.laws_sessions.proofs.Stepped.{StepRan, comes_map, said_after}
-use Rattle.laws_sessions.proofs.StepsKnown.{among_next}
 use Rattle.laws_sessions.proofs.TreeBefore.{Before, Result, Then, idle_quiet}
 use Rattle.laws_sessions.proofs.TreeBegins.{MayChange, Meets, may_change_now, met_own, worked_filled}
 use Rattle.laws_sessions.proofs.TreeKnown.{ItemHas}
 use Rattle.laws_sessions.proofs.TreeSkipped.{file_has}
-use Rattle.laws_sessions.proofs.TreeSteps.{IsNextOf, next_of}
+use Rattle.laws_sessions.proofs.TreeSteps.{IsNextOf, among_next, next_of}
 use Rattle.laws_sessions.proofs.Untouched.{IsAsFound, IsBare}
 use Rattle.laws_sessions.proofs.TreeListed.{list_joins, list_stays, no_part, noted_clean, noted_dirty}
 use Rattle.copy_file.specs.declared.stage.Stage.TheVariants.{Fill}

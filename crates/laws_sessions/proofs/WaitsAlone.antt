@@ -1,5 +1,5 @@
 -- What waits of a name waits for the sync of its own folder alone: no renaming between that folder and another one does.
-use Rattle.std.proofs.Common.{◌≡◌, ◌⊎◌, ℕ, Bool, true, false, List, [], ◌∷◌, ◌++◌, refl, sym, ◌∙◌, ap, subst, inl, inr, Some, None}
+use Rattle.std.proofs.Common.{◌≡◌, ◌⊎◌, ℕ, Bool, true, false, List, [], ◌∷◌, ◌++◌, refl, sym, ◌∙◌, ap, subst, inl, inr, Some, None, length}
 use Rattle.std.specs.Prelude.{◌==◌, ◌||◌, ◌&&◌, not, is_some}
 use Rattle.std.specs.Option.{option_map_or}
 use Rattle.std.proofs.lemmas.Bool.{and_from, and_parts, both_ways, eq-eqb, eqb-true, false≢true, not_from_true, or_cases, or_left, or_right, true≢false}
@@ -9,8 +9,9 @@ use Rattle.tree_trait.specs.Refusals.{is_folder}
 use Rattle.tree_trait.specs.Change.{Change, Nothing, Makes, Moves, Removes, Sets, Writes, Syncs, CallLog, current, with_change}
 use Rattle.tree_trait.specs.CrashImages.{is_settled, is_unsynced, same_name, says}
 use Rattle.tree_trait.proofs.Settled.{and_follows, or_follows}
+use Rattle.laws_crash.proofs.Guarding.{same_quiet}
 use Rattle.laws_sessions.specs.Doubt.{is_pending, name_waits}
-use Rattle.laws_sessions.proofs.NameWaits.{NameWaits, waits_after, waits_calm}
+use Rattle.laws_sessions.proofs.NameWaits.{NameWaits, waits_after, waits_calm, waits_still}
 use Rattle.laws_sessions.proofs.Pending.{is_within, one_said, two_said, unless}
 use Rattle.laws_sessions.proofs.Resting.{IsOfFiles}
 use Rattle.laws_sessions.proofs.Restless.{IsUnjoined, is_restless, names_in}
@@ -33,7 +34,7 @@ settled_self : (g f : ℕ) → (g == f) ≡ true → is_settled g (Syncs f ∷ [
 settled_self g f same = or_left (f == g) false (eq-eqb f g (sym (eqb-true g f same)))
 
 -- a change within a folder waits for no sync but that folder's
-within_gone : (f : ℕ) (name : List ℕ) (c : Change) → is_within c ≡ true → is_some (says c 0 f name) ≡ true → is_unsynced c (Syncs f ∷ []) ≡ false
+pub within_gone : (f : ℕ) (name : List ℕ) (c : Change) → is_within c ≡ true → is_some (says c 0 f name) ≡ true → is_unsynced c (Syncs f ∷ []) ≡ false
 within_gone f name Nothing one said = refl
 within_gone f name (Makes g m made) one said = not_from_true _ (settled_self g f (and_parts (g == f) _ (one_said (same_name g m f name) (Some 0) said)).0)
 within_gone f name (Moves a old b new i r) one said = not_from_true _ (both (elim (two_said (same_name b new f name) (same_name a old f name) (Some i) None said) [
@@ -47,6 +48,11 @@ within_gone f name (Removes g m i) one said = not_from_true _ (settled_self g f 
 within_gone f name (Sets i mode) one said = absurd (false≢true said)
 within_gone f name (Writes i bytes time) one said = absurd (false≢true said)
 within_gone f name (Syncs i) one said = refl
+
+-- a call that changes no name leaves each name so
+pub alone_quiet : (log : CallLog) (c : Change) → ((n g : ℕ) (m : List ℕ) → says c n g m ≡ None) → (p : Route) → WaitsAlone log p → WaitsAlone (with_change log c) p
+alone_quiet log c none [] alone = tt
+alone_quiet log c none (name ∷ up) alone = λ f at. waits_still f name log c (f ∷ []) (ap is_some (none 0 f name)) (alone f (sym (same_quiet log c (none (length (current log).nodes)) up) ∙ at))
 
 -- A call that changes only names in one folder, or another name, leaves a name so, where its folder is found where it was.
 pub alone_at : (log : CallLog) (c : Change) (files : IsOfFiles log) (name : List ℕ) (up : Route)
