@@ -105,7 +105,6 @@ module _ (told : HistoryFacts) (dirty : List Route) (marks : Marks) (log : CallL
             | inr apart ↦ apart.2 (subst (λ n. apart.0 ≡ mount_number (current log).mounts n) (sym same) apart.1)
           ]))
 
-
 -- What is known of a job is known with the marks that are settled.
 module _ (log : CallLog) (marks : Marks) where
   -- what is taken back stands, or it is said of it what was said

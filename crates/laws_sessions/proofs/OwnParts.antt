@@ -298,12 +298,15 @@ module _ (opening : CallLog) (tree : IsTree (current opening)) (settled : all_se
 
       was_own : (path : Route) → IsOwnPart older job path → IsOwnPart (e ∷ older) job path
       was_own path (holds, inl touched) = (holds, inl touched)
-      was_own path (holds, inr among) = (holds, elim (part_stays (is_part_of_other id (live_parts older)) (left_parts older) (named_parts older) path among did) [
-        | inl changed ↦
-            let w = works.walks in
-            inl (holder_touches (told_of opening before older r.part) was.dirty dirty_after r.marks before now job new did path (folder_of path) changed job.course refl knows holds works.tells w.0 w.1 w.2 w.3)
-        | inr still ↦ inr (subst (λ xs. Among xs path) (sym named_is) still)
-      ])
+      was_own path (holds, inr among) = (
+        holds,
+        elim (part_stays (is_part_of_other id (live_parts older)) (left_parts older) (named_parts older) path among did) [
+          | inl changed ↦
+              let w = works.walks in
+              inl (holder_touches (told_of opening before older r.part) was.dirty dirty_after r.marks before now job new did path (folder_of path) changed job.course refl knows holds works.tells w.0 w.1 w.2 w.3)
+          | inr still ↦ inr (subst (λ xs. Among xs path) (sym named_is) still)
+        ],
+      )
   own_step e older id did was job new dirty_after before now r knows what_is own (inr syncs) = by syncs.synced
     where
       kept : (d : Did) → did ≡ d → (path : Route) → begins_part d path ≡ false → named_by d (is_part_of_other id (live_parts older)) (left_parts older) (named_parts older) ≡ named_parts older → has_named_part job.id path (e ∷ older) ≡ true → IsOwnPart (e ∷ older) job path

@@ -103,7 +103,6 @@ folder_once told dirty marks log kept path i at folder sure p out was x found = 
       subst (λ q. IsSettledAt log q) (sym same) (settled_unless log path sure) x found
 ]
 
-
 still_out : (a b : Bool) → (a && not b) ≡ false → (a ≡ false) ⊎ (b ≡ true)
 still_out true true h = inr refl
 still_out true false h = absurd (true≢false h)
