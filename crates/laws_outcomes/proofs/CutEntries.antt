@@ -39,7 +39,7 @@ use Rattle.laws_sessions.proofs.Unnamed.{earlier_unnamed, step_unnamed}
 use Rattle.laws_outcomes.specs.Begun.{tree_begun}
 use Rattle.laws_outcomes.specs.Outcomes.{passed_over}
 use Rattle.laws_outcomes.proofs.Accounts.{put_value}
-use Rattle.laws_outcomes.proofs.ChangedPaths.{IsChanged}
+use Rattle.laws_sessions.proofs.ChangedPaths.{IsChanged}
 use Rattle.laws_outcomes.proofs.CutLive.{AllLive, live_since}
 use Rattle.laws_outcomes.proofs.CutParts.{apart_then, left_event, named_event}
 use Rattle.laws_outcomes.proofs.CutSteps.{StepFact, leads_fact, pair_at}

@@ -33,7 +33,7 @@ use Rattle.laws_outcomes.specs.KeepsFiles.{IsLeft, IsPromised, KeepsFiles, stood
 use Rattle.laws_outcomes.specs.Arrivals.{new_things, only, over_things}
 use Rattle.laws_outcomes.specs.PowerCut.{KeepsAll}
 use Rattle.laws_outcomes.specs.OutcomeLaws.{KeepsLaw}
-use Rattle.laws_outcomes.proofs.ChangedPaths.{IsChanged}
+use Rattle.laws_sessions.proofs.ChangedPaths.{IsChanged}
 use Rattle.laws_outcomes.proofs.CutEntries.{AtStep, IsFirst, IsMade, before_newest, changed_touches}
 use Rattle.laws_outcomes.proofs.CutLive.{AllLive, all_live, all_map, taken_item}
 use Rattle.laws_outcomes.proofs.CutMoments.{at_path, begun_first, stood_shown, two, unnamed_before}

@@ -16,7 +16,7 @@ use Rattle.session_entries.specs.Named.{NamedPart, if_among, is_part_of_other, l
 use Rattle.laws_sessions.proofs.MovedPaths.{among_both, among_passed, moved_part_below, off_both}
 use Rattle.laws_sessions.proofs.Owing.{in_filter}
 use Rattle.laws_sessions.proofs.Unnamed.{named_step}
-use Rattle.laws_outcomes.proofs.ChangedPaths.{IsChanged}
+use Rattle.laws_sessions.proofs.ChangedPaths.{IsChanged}
 
 -- an entry that doesn't name a path makes it no part
 pub named_event : (what : Event) (live : List NamedPart) (left parts : List Route) (path : Route) → names_path what path ≡ false → Among (named_after what live left parts) path → Among parts path

@@ -59,7 +59,7 @@ use Rattle.laws_sessions.proofs.Knowing.{IsKept, HistoryFacts}
 use Rattle.laws_sessions.proofs.Sources.{item_in, making_item}
 use Rattle.laws_sessions.proofs.TreeKnown.{ItemHas, LeavesPart, leaves_part}
 use Rattle.laws_outcomes.proofs.ApartPaths.{AreApart, GoesTo}
-use Rattle.laws_outcomes.proofs.ChangedPaths.{IsChanged}
+use Rattle.laws_sessions.proofs.ChangedPaths.{IsChanged}
 use Rattle.laws_outcomes.proofs.CutCopies.{CopyFact, copy_fact}
 use Rattle.laws_outcomes.proofs.Doing.{CourseDone, JobDone, WorkDone, goes_to, stands}
 use Rattle.laws_outcomes.proofs.CopyOutcome.{shows_all}

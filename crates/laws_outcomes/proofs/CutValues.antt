@@ -28,7 +28,7 @@ use Rattle.laws_sessions.specs.Replayed.{copied_folder, log_prefix, new_folder, 
 use Rattle.laws_sessions.proofs.Moved.{moved_below}
 use Rattle.laws_outcomes.specs.Arrivals.{copies_as, copies_of, copies_over, new_things, only, over_things, overs_of}
 use Rattle.laws_outcomes.proofs.Accounts.{IsShown, put_value}
-use Rattle.laws_outcomes.proofs.ChangedPaths.{IsChanged}
+use Rattle.laws_sessions.proofs.ChangedPaths.{IsChanged}
 use Rattle.laws_outcomes.proofs.CutCopies.{CopyFact, IsSingle}
 use Rattle.laws_outcomes.proofs.CutEntries.{AtStep, IsFirst, at_step, before_newest, changed_touches}
 use Rattle.laws_outcomes.proofs.CutLive.{AllLive, live_since}

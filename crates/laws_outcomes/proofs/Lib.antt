@@ -4,9 +4,7 @@ pub mod AnswersLaw
 pub mod AnswersSaid
 pub mod ApartPaths
 pub mod BegunTrees
-pub mod ChangedPaths
 pub mod CopyOutcome
-pub mod CopyTouches
 pub mod CutCopies
 pub mod CutEntries
 pub mod CutKeeps

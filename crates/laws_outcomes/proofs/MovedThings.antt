@@ -22,7 +22,7 @@ use Rattle.laws_sessions.proofs.PathsBelow.{below_way, is_below}
 use Rattle.laws_outcomes.specs.Outcomes.{IsMoved, passed_in}
 use Rattle.laws_outcomes.specs.Touched.{touches}
 use Rattle.laws_outcomes.proofs.ApartPaths.{AreApart}
-use Rattle.laws_outcomes.proofs.ChangedPaths.{IsChanged}
+use Rattle.laws_sessions.proofs.ChangedPaths.{IsChanged}
 use Rattle.laws_outcomes.proofs.MadeThings.{Unless}
 
 -- both paths, and all below them, are as they were

@@ -15,7 +15,7 @@ use Rattle.emptied_job.specs.Removals.{Removing, Tells, at_barrier, is_done, ski
 use Rattle.laws_sessions.specs.Replayed.{replayed_step}
 use Rattle.laws_sessions.proofs.Deleted.{put_at}
 use Rattle.laws_outcomes.specs.Outcomes.{IsEmptiedGone, passed_in}
-use Rattle.laws_outcomes.proofs.ChangedPaths.{IsChanged}
+use Rattle.laws_sessions.proofs.ChangedPaths.{IsChanged}
 use Rattle.laws_outcomes.proofs.MadeThings.{Unless}
 use Rattle.laws_outcomes.proofs.MovedThings.{none_among}
 

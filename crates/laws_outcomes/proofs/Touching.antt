@@ -36,8 +36,8 @@ use Rattle.laws_sessions.proofs.Deleted.{put_off}
 use Rattle.laws_sessions.proofs.MovedPaths.{moved_off}
 use Rattle.laws_sessions.proofs.Sources.{IsSame, answer_same, item_in, making_item}
 use Rattle.laws_outcomes.specs.Touched.{touches}
-use Rattle.laws_outcomes.proofs.ChangedPaths.{IsChanged}
-use Rattle.laws_outcomes.proofs.CopyTouches.{tree_touches}
+use Rattle.laws_sessions.proofs.ChangedPaths.{IsChanged}
+use Rattle.laws_sessions.proofs.CopyTouches.{tree_touches}
 use Rattle.laws_outcomes.proofs.Doing.{CourseDone, WorkDone}
 use Rattle.laws_outcomes.proofs.MadeThings.{Unless, unless_of}
 use Rattle.laws_outcomes.proofs.MovedThings.{moving_touches}

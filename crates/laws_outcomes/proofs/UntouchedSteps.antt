@@ -40,7 +40,7 @@ use Rattle.laws_outcomes.specs.Begun.{tree_begun}
 use Rattle.laws_outcomes.specs.Keeps.{has_kept, keeps_by}
 use Rattle.laws_outcomes.specs.OutcomeLaws.{KeptLaw, UntouchedLaw}
 use Rattle.laws_outcomes.specs.Untouched.{IsStepOf}
-use Rattle.laws_outcomes.proofs.ChangedPaths.{IsChanged}
+use Rattle.laws_sessions.proofs.ChangedPaths.{IsChanged}
 use Rattle.laws_outcomes.proofs.CutEntries.{AtStep, IsFirst, at_step, changed_touches}
 use Rattle.laws_outcomes.proofs.Elsewhere.{untouched_since}
 use Rattle.laws_outcomes.proofs.KeptSessions.{all_same, kept_since, traced_spared}

@@ -116,7 +116,7 @@ sets_none replies (Move m) new path q other t own = true≢false other
 sets_none replies (RemoveEmptied r) (RemoveEmptied new) path q other t own = t
 sets_none replies old new path q other t own = t
 
--- and in its folders no mode waits from then on, but for a copy or a move
+-- and its paths are calm from then on, but for a copy or a move
 pub calm_stays : (job new : Running) (did : Did) (dirty dirty_after : List Route) (log now : CallLog) (calm : Route → Bool) (q : Route) → knows_calm job.work ≡ false → WorkLeads job did new dirty dirty_after log now
     → may_change (item_in job.work) q ≡ true → (calm q ≡ true) ⊎ (begins_change did ≡ true) → calm_by did (item_in job.work) calm q ≡ true
 calm_stays job new (Removed path) dirty dirty_after log now calm q other works own known = or_left _ _ own

@@ -23,11 +23,12 @@ use Rattle.laws_sessions.proofs.Pending.{pending_less}
 use Rattle.laws_sessions.proofs.InTransit.{transit_waits}
 pub use Rattle.laws_sessions.proofs.HollowThings.{IsHollow, hollow_file, holds_none, none_below_file, none_below_hollow, off_itself, said_one, some_is, some_none}
 use Rattle.laws_sessions.proofs.HollowThings.{folder_before, folder_stands, found_elsewhere, found_or_gone, leads_as_before, path_gone, says_name, sure_elsewhere}
-use Rattle.laws_sessions.proofs.Knowing.{HasMode, HasNoMode, IsCalmFolder, IsKnown, IsUnreached, RoamInTransit, HistoryFacts, held, nowhere}
+use Rattle.laws_sessions.proofs.Knowing.{HasMode, HasNoMode, IsCalmPath, IsKnown, IsUnreached, RoamInTransit, HistoryFacts, held, nowhere}
 use Rattle.laws_sessions.proofs.Quiet.{held_same, kind_same, shows_same, starts_same, unclean_before, was_bare}
-use Rattle.laws_sessions.proofs.Resting.{IsBeside, IsSureFolder, joint_still, unborn_more, unjoined_still}
+use Rattle.laws_sessions.proofs.Resting.{IsBeside, IsSureFolder, joint_still, unborn_more}
 use Rattle.laws_sessions.proofs.Restless.{is_restless, restless_less}
 use Rattle.laws_sessions.proofs.RoamingFolders.{roaming_still}
+use Rattle.laws_sessions.proofs.WaitsAlone.{alone_still}
 use Rattle.laws_sessions.proofs.WaitsFor.{names_said}
 use Rattle.laws_sessions.proofs.Since.{clean_since, pending_since, renamed_since}
 
@@ -79,8 +80,8 @@ pub record SaysGone (said after : HistoryFacts) (marks : Marks) (log : CallLog) 
   -- a folder that is said to be on the disk is another one, and it was said so before, or it is
   pub folders : (p : Route) → after.folders p ≡ true → (same_path p path ≡ false) × ((said.folders p ≡ true) ⊎ IsSureFolder log p)
   pub modes : (p : Route) → said.modes p ≡ true → after.modes p ≡ true
-  -- nor does a mode wait in a folder of which that is said
-  pub calm : (p : Route) → after.calm p ≡ true → (said.calm p ≡ true) ⊎ IsCalmFolder marks log p
+  -- what is said to be calm was said so before, or is calm
+  pub calm : (p : Route) → after.calm p ≡ true → (said.calm p ≡ true) ⊎ IsCalmPath marks log p
 
 -- a mode that is known isn't one that waits
 pub other_mode : {A : Type 0} (marks : Marks) (i before : ℕ) → marks.modes i ≡ None → marks.modes i ≡ Some before → A
@@ -253,13 +254,13 @@ module _ (told after : HistoryFacts) (dirty dirty_after : List Route) (marks : M
       let g_is : g ≡ r.i = some_is r.i g (sym path_at ∙ (ap (find (current log)) (sym (same_path-true q path same)) ∙ at)) in
       both_ways _ (apart h) (subst (λ k. is_joint k h log.changes ≡ true) g_is joined))) ∙ at
 
-  calm_was : (p : Route) → IsCalmFolder marks log p → IsCalmFolder marks now p
+  calm_was : (p : Route) → IsCalmPath marks log p → IsCalmPath marks now p
   calm_was p calm = record {
-    modes = λ name i at. elim (found_then (name ∷ p)) [
-      | inl same ↦ elim (calm.modes name i (sym same ∙ at)) [ inl none ↦ inl none | inr begins ↦ inr (starts_same log removes i ∙ begins) ]
-      | inr gone ↦ absurd (no_path (name ∷ p) i at gone)
+    mode = λ i at. elim (found_then p) [
+      | inl same ↦ elim (calm.mode i (sym same ∙ at)) [ inl none ↦ inl none | inr begins ↦ inr (starts_same log removes i ∙ begins) ]
+      | inr gone ↦ absurd (no_path p i at gone)
     ];
-    apart = unjoined_still log removes known.guarded.tree known.files refl (starts_same log removes) as_before was_at p calm.apart;
+    alone = alone_still log removes known.files was_at refl p calm.alone;
   }
 
   joint : (g h : ℕ) (q : Route) → is_joint g h now.changes ≡ true → find (current now) q ≡ Some g → IsBeside now q h

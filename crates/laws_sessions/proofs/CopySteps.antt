@@ -52,7 +52,7 @@ use Rattle.laws_sessions.proofs.Changing.{off_itself, removed_known}
 use Rattle.laws_sessions.proofs.Deleted.{IsRemoval, file_unjoined, removal_done, removal_leads}
 use Rattle.laws_sessions.proofs.Resting.{IsSureFolder, folder_at}
 use Rattle.laws_sessions.proofs.Filling.{begun, filled_more}
-use Rattle.laws_sessions.proofs.Knowing.{IsCalmFolder, HistoryFacts, IsKnown, IsKept, settled_marks}
+use Rattle.laws_sessions.proofs.Knowing.{HistoryFacts, IsCalmPath, IsKnown, IsKept, settled_marks}
 use Rattle.laws_sessions.proofs.JobKnows.{FileKnows, HasName, HasPart, IsAsFound, StageKnows, found_settled, may_fill, none_of_part, part_settled}
 use Rattle.laws_sessions.proofs.MakingParts.{with_part}
 use Rattle.laws_sessions.proofs.Moved.{moved_below}
@@ -145,14 +145,14 @@ not_decided stage going is = absurd (let e : IsDecided ≡ UnderWay = sym (ap pr
 pub copy_begins : (told : HistoryFacts) (dirty dirty_after : List Route) (marks : Marks) (log now : CallLog) → IsKept told dirty marks log → (c new : Copying) (part : Route) (unclaimed : Route → Type 0) (around : Route) (own : Route → Bool) → HasName c.target → told.part ≡ None
     → Tells c (Began part) new → IsOpen (current log) (places_of c)
     → BeganOf (current log) (places_of c) new.stage × ((k : ℕ) × (part ≡ part_path (places_of c) k) × IsFirstFree (current log) unclaimed (places_of c) k × AllDone log (making (current log) (places_of c) k ∷ []) (Some now))
-    → IsAsFound marks (current log) c.target → IsSureFolder log (folder_of c.target) → IsSureFolder log around → own (folder_of c.target) ≡ true → ((p : Route) → own p ≡ true → IsCalmFolder marks log p)
+    → IsAsFound marks (current log) c.target → IsSureFolder log (folder_of c.target) → IsSureFolder log around → ((p : Route) → own p ≡ true → IsCalmPath marks log p)
     → Among dirty_after (folder_of c.target) → ((q : Route) → Among dirty q → Among dirty_after q)
     → StepRan told (with_part told around own part) dirty_after log now (λ m. FileKnows (with_part told around own part) dirty_after m (current now) GoesOn new)
-copy_begins told dirty dirty_after marks log now kept c new part unclaimed around own name none (stage, (said, new_is)) ready (began_of, (k, part_is, free, rows)) found firm around_firm own_here calm listed more =
+copy_begins told dirty dirty_after marks log now kept c new part unclaimed around own name none (stage, (said, new_is)) ready (began_of, (k, part_is, free, rows)) found firm around_firm calm listed more =
     let is_said = subst (λ (x : Copying). BeganOf (current log) (places_of c) x.stage) new_is began_of in
     subst (λ (x : Copying). StepRan told (with_part told around own part) dirty_after log now (λ m. FileKnows (with_part told around own part) dirty_after m (current now) GoesOn x)) (sym new_is)
     (subst (λ q. StepRan told (with_part told around own q) dirty_after log now (λ m. FileKnows (with_part told around own q) dirty_after m (current now) GoesOn (record c { stage = Fill q said 0; folder = Dirty }))) (sym part_is)
-    (begun told dirty dirty_after marks log now kept c unclaimed said k name ready is_said free none found (one_done log (making (current log) (places_of c) k) now rows) firm around around_firm own own_here calm listed more))
+    (begun told dirty dirty_after marks log now kept c unclaimed said k name ready is_said free none found (one_done log (making (current log) (places_of c) k) now rows) firm around around_firm own calm listed more))
 
 module _ (told : HistoryFacts) (dirty : List Route) (marks : Marks) (log now : CallLog) (kept : IsKept told dirty marks log) (t : SubtreeCopying) (c : Copying) (lies : IsMoved t.top c.source c.target) (unclaimed : Route → Type 0) where
   -- a write stops, and leaves the part with any bytes

@@ -25,7 +25,7 @@ use Rattle.laws_sessions.specs.Doubt.{is_joint, way_waits}
 use Rattle.laws_sessions.proofs.Calming.{nothing_known}
 use Rattle.laws_sessions.proofs.Changing.{IsHollow, hollow_file, removed_known}
 use Rattle.laws_sessions.proofs.Emptied.{IsEmptied, emptied}
-use Rattle.laws_sessions.proofs.Knowing.{IsCalmFolder, IsKept, IsKnown, HistoryFacts, held, settled_marks}
+use Rattle.laws_sessions.proofs.Knowing.{IsCalmPath, IsKept, IsKnown, HistoryFacts, held, settled_marks}
 use Rattle.laws_sessions.proofs.JobKnows.{WorkKnows, work_settled, work_still}
 use Rattle.laws_sessions.proofs.Resting.{IsOfFiles, IsSureFolder, bare_unjoined, folder_at}
 use Rattle.laws_sessions.proofs.Restless.{IsUnjoined}
@@ -127,10 +127,10 @@ pub file_unjoined : (log now : CallLog) (path : Route) (it : IsRemoval log now p
 file_unjoined log now path it tree files bare g =
     bare_unjoined log tree files it.r.i g (sym (ap (λ o. Rattle.std.specs.Option.option_map_or (λ j. is_folder (node (current log) j)) o false) (removal_leads log now path it)) ∙ bare)
 
--- A thing is removed, of which a job knows that nothing was done there yet, that the folder in which it changes names is on the disk, and that which holds the thing, and that no
--- mode waits in its folders, nor of the thing, and no renaming waits for a folder of them and another one.
+-- A thing is removed, of which a job knows that nothing was done there yet, that the folder in which it changes names is on the disk, and that which holds the thing, that its own
+-- paths are calm, and that no mode of the thing waits, nor a renaming for it and another folder.
 pub removes_thing : (told : HistoryFacts) (dirty dirty_after : List Route) (marks : Marks) (log now : CallLog) (path : Route) (work : Work) (knows : Marks → Type 0) → IsKept told dirty marks log → told.part ≡ None
-    → (marks.aside path ≡ false → marks.was path ≡ find (current log) path) → IsSureFolder log (folder_changed (item_in work)) → way_waits log (folder_of path) ≡ false → ((p : Route) → may_change (item_in work) p ≡ true → IsCalmFolder marks log p)
+    → (marks.aside path ≡ false → marks.was path ≡ find (current log) path) → IsSureFolder log (folder_changed (item_in work)) → way_waits log (folder_of path) ≡ false → ((p : Route) → may_change (item_in work) p ≡ true → IsCalmPath marks log p)
     → ((i : ℕ) → find (current log) path ≡ Some i → starts_mount (current log) i ≡ false → marks.modes i ≡ None) → IsUnjoined log path → Among dirty_after (folder_of path)
     → ((q : Route) → Among dirty q → same_path q path ≡ false → Among dirty_after q)
     → IsRemoval log now path → knows (settled_marks now marks) → StepRan told (said_after now (Removed path) work told) dirty_after log now knows

@@ -1,7 +1,7 @@
 -- Each step of a deletion keeps what is known.
 use Rattle.std.proofs.Common.{◌≡◌, ◌⊎◌, ℕ, Bool, true, false, List, [], ◌∷◌, ◌++◌, refl, sym, ◌∙◌, ap, subst, inl, inr, Option, Some, None, Ok, arith, ◌||◌, not}
 use Rattle.std.specs.Prelude.{if◌then◌else◌}
-use Rattle.std.proofs.lemmas.Bool.{and_from, both_ways, false≢true, or_cases, or_left, or_right}
+use Rattle.std.proofs.lemmas.Bool.{and_from, both_ways, false≢true, or_cases, or_left}
 use Rattle.mc_text.specs.Routes.{Route, is_prefix, same_path}
 use Rattle.mc_text.proofs.Prefixes.{same_path-lengths}
 use Rattle.tree_trait.specs.declared.calls.TreeError.{TreeError}
@@ -24,7 +24,7 @@ use Rattle.job_reports.proofs.PermittedCalls.{sync_finds}
 use Rattle.mode_job.specs.SettingSteps.{sync_of}
 use Rattle.delete_job.specs.declared.deletion.Stage.{Stage}
 use Rattle.delete_job.specs.declared.deletion.Stage.TheVariants.{Begin, Going, Sync}
-use Rattle.job_unsynced.specs.Folders.{is_of, is_one_of, joined_folders}
+use Rattle.job_unsynced.specs.Folders.{is_one_of, joined_folders}
 use Rattle.delete_job.specs.Standing.{after_item, at_barrier, is_fresh}
 use Rattle.copy_move.specs.declared.work.Work.{Work}
 use Rattle.copy_move.specs.declared.work.Work.TheVariants.{Delete}
@@ -33,15 +33,16 @@ use Rattle.copy_move.specs.declared.run.Course.TheVariants.{GoesOn, Ends}
 use Rattle.delete_job.specs.Deletions.{Deleting, DeletionCalls, DeletionLeaves, IsAtStage, IsRefused, LastCalls, RefusedFile, RefusedFolder, RefusedSync, Tells, TellsTried, Winds}
 use Rattle.delete_job.specs.DeletionSteps.{after_try}
 use Rattle.copy_move.specs.Jobs.{course_after}
-use Rattle.copy_move.specs.Settling.{NoneOwed, is_own, with_change as moves_dirty}
+use Rattle.copy_move.specs.Settling.{NoneOwed, with_change as moves_dirty}
 use Rattle.laws_sessions.proofs.Calming.{cleared_known, refused_is, still_listed, thing_done}
-use Rattle.laws_sessions.proofs.Knowing.{IsCalmFolder, IsKept, IsKnown, HistoryFacts, settled_marks}
+use Rattle.laws_sessions.proofs.Knowing.{IsCalmPath, IsKept, IsKnown, HistoryFacts, settled_marks}
 use Rattle.laws_sessions.specs.Doubt.{way_waits}
-use Rattle.laws_sessions.proofs.JobKnows.{AreSureWithin, HasName, IsIntact, KnowsAfter, KnowsWithin, WorkKnows, work_settled, work_still}
+use Rattle.laws_sessions.proofs.JobKnows.{AreSureWithin, AreUnjoinedWithin, HasName, IsIntact, KnowsAfter, KnowsWithin, WorkKnows, work_settled, work_still}
 use Rattle.laws_sessions.proofs.Stepped.{StepRan, comes_none, comes_one, folders_by, said_after}
 use Rattle.laws_sessions.proofs.Deleted.{IsRemoval, comes_refused, folder_removed, removal_done, removal_leads, removes_thing}
-use Rattle.laws_sessions.proofs.Intact.{calm_begins, folder_apart, folder_firm, intact_after, intact_begins, intact_was, own_folder, removed_in, removed_sure, within_after, within_begins}
+use Rattle.laws_sessions.proofs.Intact.{apart_after, apart_begins, calm_begins, folder_apart, folder_firm, intact_after, intact_begins, intact_was, prefix_way, removed_in, removed_sure, within_after, within_begins}
 use Rattle.laws_sessions.proofs.Resting.{IsSureFolder}
+use Rattle.laws_sessions.proofs.Restless.{IsUnjoined}
 
 last_among : (up : Route) (dirty : List Route) → Among (dirty ++ up ∷ []) up
 last_among up [] = inl refl
@@ -165,22 +166,28 @@ module _ (told : HistoryFacts) (dirty dirty_after : List Route) (marks : Marks) 
       by Going is = (known is).sure
       by Sync is = absurd (false≢true (sym going ∙ ap at_barrier is))
 
-  -- no mode waits in its folders
-  calm_now : (d : Deleting) → WorkKnows told dirty marks log GoesOn (Delete d) → at_barrier d.stage ≡ false → (is_fresh d.stage ≡ true → NoneOwed (current log) (Delete d) dirty) → (q : Route) → is_own (Delete d) q ≡ true
-      → IsCalmFolder marks log q
+  -- none is joined with another one
+  apart_now : (d : Deleting) → WorkKnows told dirty marks log GoesOn (Delete d) → at_barrier d.stage ≡ false → (is_fresh d.stage ≡ true → NoneOwed (current log) (Delete d) dirty) → AreUnjoinedWithin log d.path
+  apart_now d (name, none, known) going settled = by d.stage refl
+    where
+      by : (stage : Stage) → d.stage ≡ stage → AreUnjoinedWithin log d.path
+      by Begin is = apart_begins told dirty marks log kept d name (settled (ap is_fresh is))
+      by Going is = (known is).apart
+      by Sync is = absurd (false≢true (sym going ∙ ap at_barrier is))
+
+  -- all is calm
+  calm_now : (d : Deleting) → WorkKnows told dirty marks log GoesOn (Delete d) → at_barrier d.stage ≡ false → (is_fresh d.stage ≡ true → NoneOwed (current log) (Delete d) dirty) → (q : Route) → is_prefix d.path q ≡ true
+      → IsCalmPath marks log q
   calm_now d (name, none, known) going settled q own = by d.stage refl
     where
-      by : (stage : Stage) → d.stage ≡ stage → IsCalmFolder marks log q
+      by : (stage : Stage) → d.stage ≡ stage → IsCalmPath marks log q
       by Begin is = calm_begins told dirty marks log kept d name (settled (ap is_fresh is)) q own
       by Going is = kept.known.calm q ((known is).calm q own)
       by Sync is = absurd (false≢true (sym going ∙ ap at_barrier is))
 
-  -- nor of what is removed, at which no mount begins
-  no_mode_now : (d : Deleting) (path : Route) → ((q : Route) → is_own (Delete d) q ≡ true → IsCalmFolder marks log q) → is_prefix d.path path ≡ true → IsRemoval log now path
-      → (i : ℕ) → find (current log) path ≡ Some i → starts_mount (current log) i ≡ false → marks.modes i ≡ None
-  no_mode_now d path calm within it i at inside =
-      let around = calm it.r.up (own_folder d path it.r.up within (sym (ap folder_of it.r.path_is))) in
-      elim (around.modes it.r.name i (ap (find (current log)) (sym it.r.path_is) ∙ at)) [ inl none ↦ none | inr begins ↦ absurd (both_ways _ inside begins) ]
+  -- so no mode of what is removed waits, at which no mount begins
+  no_mode_now : (path : Route) → IsCalmPath marks log path → (i : ℕ) → find (current log) path ≡ Some i → starts_mount (current log) i ≡ false → marks.modes i ≡ None
+  no_mode_now path calm i at inside = elim (calm.mode i at) [ inl none ↦ none | inr begins ↦ absurd (both_ways _ inside begins) ]
 
   -- the folder that holds the thing is on the disk then
   firm_now : (d : Deleting) (path : Route) → WorkKnows told dirty marks log GoesOn (Delete d) → at_barrier d.stage ≡ false → (is_fresh d.stage ≡ true → NoneOwed (current log) (Delete d) dirty)
@@ -195,23 +202,27 @@ module _ (told : HistoryFacts) (dirty dirty_after : List Route) (marks : Marks) 
   above_it : (path : Route) → IsRemoval log now path → same_path (folder_of path) path ≡ false
   above_it path it = subst (λ q. same_path (folder_of q) q ≡ false) (sym it.r.path_is) (same_path-lengths it.r.up (it.r.name ∷ it.r.up) (λ e. let n : ⊥ = absurd (omega (arith, e)) in n))
 
-  removes : (d new : Deleting) (path : Route) (stage : Stage) → WorkKnows told dirty marks log GoesOn (Delete d) → IsIntact marks (current log) d.path → AreSureWithin log d.path → IsSureFolder log (folder_of d.path) → ((q : Route) → is_own (Delete d) q ≡ true → IsCalmFolder marks log q) → is_prefix d.path path ≡ true
+  removes : (d new : Deleting) (path : Route) (stage : Stage) → WorkKnows told dirty marks log GoesOn (Delete d) → IsIntact marks (current log) d.path → AreSureWithin log d.path → IsSureFolder log (folder_of d.path) → ((q : Route) → is_prefix d.path q ≡ true → IsCalmPath marks log q) → AreUnjoinedWithin log d.path → is_prefix d.path path ≡ true
       → IsAtStage d stage new → Among dirty_after (folder_of path) → ((q : Route) → Among dirty q → same_path q path ≡ false → Among dirty_after q) → IsRemoval log now path → Steps (Removed path) GoesOn (Delete d) (Delete new)
-  removes d new path stage (name, none, known) intact sure firm calm within at listed more it =
+  removes d new path stage (name, none, known) intact sure firm calm apart within at listed more it =
       removes_thing told dirty dirty_after marks log now path (Delete d) (KnowsAfter (Removed path) (said_after now (Removed path) (Delete d) told) dirty_after now GoesOn (Delete new)) kept none
-      (λ out. intact_was marks (current log) d.path path it.r.i intact within (removal_leads log now path it) out) firm way calm (no_mode_now d path calm within it) (let own = calm path (or_right _ _ within) in own.apart) listed more it (
+      (λ out. intact_was marks (current log) d.path path it.r.i intact within (removal_leads log now path it) out) firm way calm (no_mode_now path (calm path within)) unjoined listed more it (
         subst HasName (sym at.path_is) name,
         none,
         λ is. record {
           intact = subst (IsIntact (settled_marks now marks) (current now)) (sym at.path_is) (intact_after told dirty marks log now path d.path kept it way intact);
           sure = subst (AreSureWithin now) (sym at.path_is) (within_after log now path d.path kept.known.guarded.tree it sure);
           folder = subst (λ q. folders_by (Removed path) (folder_of d.path) told.folders (folder_of q) ≡ true) (sym at.path_is) there;
-          calm = λ q own. or_left _ _ (subst (λ (p : Route). is_of (folder_of p) p q ≡ true) at.path_is own);
+          calm = λ q own. or_left _ _ (subst (λ (p : Route). is_prefix p q ≡ true) at.path_is own);
+          apart = subst (AreUnjoinedWithin now) (sym at.path_is) (apart_after log now path d.path kept.known.guarded.tree it apart);
         },
       )
     where
       way : way_waits log (folder_of path) ≡ false
       way = let around = removed_sure log now d.path path kept.known.guarded.tree within sure firm it in around.sure
+
+      unjoined : IsUnjoined log path
+      unjoined = let w = prefix_way d.path path within in subst (IsUnjoined log) (sym w.1) (apart w.0)
 
       there : folders_by (Removed path) (folder_of d.path) told.folders (folder_of d.path) ≡ true
       there = and_from (same_path (folder_of d.path) (folder_of d.path) || told.folders (folder_of d.path)) (not (same_path (folder_of d.path) path)) (or_left _ _ (same_path-self (folder_of d.path)))
@@ -226,11 +237,11 @@ module _ (told : HistoryFacts) (dirty dirty_after : List Route) (marks : Marks) 
       → (is_fresh d.stage ≡ true → NoneOwed (current log) (Delete d) dirty) → DeletionLeaves d did dirty dirty_after (Some log) (Some now) → Steps did (course_after did) (Delete d) (Delete new)
   deletion_tells replies d new (Removed path) knows (going, within, at) done settled (inl (leaves, called)) =
       let it = removal_done log now path kept.known.guarded.tree (called log refl) in
-      removes d new path _ knows (intact_now d knows going settled) (within_now d knows going settled) (firm_now d path knows going settled within it) (calm_now d knows going settled) within at (subst (λ xs. Among xs (folder_of path)) (sym leaves) (joined_holds (folder_of path) dirty))
+      removes d new path _ knows (intact_now d knows going settled) (within_now d knows going settled) (firm_now d path knows going settled within it) (calm_now d knows going settled) (apart_now d knows going settled) within at (subst (λ xs. Among xs (folder_of path)) (sym leaves) (joined_holds (folder_of path) dirty))
       (λ q among off. subst (λ xs. Among xs q) (sym leaves) (joined_more (folder_of path) q dirty among)) it
   deletion_tells replies d new (Removed path) knows (going, within, at) done settled (inr (leaves, called)) =
       let it = folder_removed log now path kept.known.guarded.tree (called log refl) in
-      removes d new path _ knows (intact_now d knows going settled) (within_now d knows going settled) (firm_now d path knows going settled within it) (calm_now d knows going settled) within at
+      removes d new path _ knows (intact_now d knows going settled) (within_now d knows going settled) (firm_now d path knows going settled within it) (calm_now d knows going settled) (apart_now d knows going settled) within at
       (subst (λ xs. Among xs (folder_of path)) (sym leaves) (still_listed path (folder_of path) (joined_folders (folder_of path) dirty) (joined_holds (folder_of path) dirty) (above_it path it)))
       (λ q among off. subst (λ xs. Among xs q) (sym leaves) (still_listed path q (joined_folders (folder_of path) dirty) (joined_more (folder_of path) q dirty among) off)) it
   deletion_tells replies d new (Kept path) knows (going, at) done settled leaves = stands GoesOn (Delete new) (stays GoesOn GoesOn d new _ knows at (still_going path d) dirty) leaves (some_log now log done)

@@ -5,7 +5,6 @@ use Rattle.std.proofs.lemmas.Bool.{or_right}
 use Rattle.mc_text.specs.Routes.{Route}
 use Rattle.tree_trait.specs.Change.{CallLog, current}
 use Rattle.laws_crash.specs.Guarded.{Marks}
-use Rattle.job_reports.specs.Paths.{folder_of}
 use Rattle.job_reports.specs.declared.report.Did.{Did}
 use Rattle.job_reports.specs.declared.report.Did.TheVariants.{Began, Chunk, Placed, Removed, Made, Set, Kept, Skipped, Cleaned, Barrier, Asked, Merges, Moved, Troubled, Ended}
 use Rattle.copy_file.specs.Copying.{Copying, Tells, is_dirty}
@@ -31,7 +30,7 @@ use Rattle.laws_sessions.proofs.Knowing.{IsKept, HistoryFacts}
 use Rattle.laws_sessions.proofs.ListSteps.{left_marks}
 use Rattle.laws_sessions.proofs.NameMarks.{dirty_stays}
 use Rattle.laws_sessions.proofs.Stepped.{StepRan, comes_map, said_after}
-use Rattle.laws_sessions.proofs.TreeKnown.{AroundKnows, ItemHas}
+use Rattle.laws_sessions.proofs.TreeKnown.{ItemHas, TargetKnows}
 use Rattle.laws_sessions.proofs.TreeSkipped.{file_has}
 
 -- a mark stays where a file is passed
@@ -41,7 +40,7 @@ settled_dirty Decided item c dirty = dirty
 settled_dirty Anew item c dirty = dirty
 
 module _ (told : HistoryFacts) (dirty dirty_after : List Route) (marks : Marks) (log now : CallLog) (kept : IsKept told dirty marks log) (c : SubtreeCopying) (f : Copying) (old new : Seen) (did : Did) (unclaimed : Route → Type 0) (item : old.item ≡ File f)
-    (going : progress f.stage ≡ UnderWay) (lies : IsMoved c.top f.source f.target) (marked : folder.is_dirty old.levels.inner.copy.names ≡ true) (calm : told.calm (folder_of c.top.target) ≡ true)
+    (going : progress f.stage ≡ UnderWay) (lies : IsMoved c.top f.source f.target) (marked : folder.is_dirty old.levels.inner.copy.names ≡ true) (calm : told.calm c.top.target ≡ true)
     (known : FileKnows told dirty marks (current log) GoesOn f) (list : dirty_after ≡ with_change (was_dirty old) (is_dirty_after old did new) (folder_worked old) dirty) (w : FileWorks unclaimed f old new did (Some log) (Some now)) where
   abbrev moved : Copying
   moved = w.moved
@@ -63,10 +62,10 @@ module _ (told : HistoryFacts) (dirty dirty_after : List Route) (marks : Marks) 
 
   -- what is known then of the copy of folders
   abbrev pub KnownThen : Marks → Type 0
-  KnownThen m = ItemHas after dirty_after m (current now) (course_after did) new.item × AroundKnows after m (current now) (record c { at = new })
+  KnownThen m = ItemHas after dirty_after m (current now) (course_after did) new.item × TargetKnows after m (current now) (record c { at = new })
 
-  -- no mode of another thing in the folder around waits
-  calm_then : (d : Did) → Tells f d moved → (let s : HistoryFacts = said_after now d (Copy c) told in s.calm (folder_of c.top.target)) ≡ true
+  -- the target is calm still
+  calm_then : (d : Did) → Tells f d moved → (let s : HistoryFacts = said_after now d (Copy c) told in s.calm c.top.target) ≡ true
   calm_then (Began part) t = or_right _ _ calm
   calm_then (Chunk count) t = calm
   calm_then (Cleaned part) t = calm

@@ -3,7 +3,7 @@
 use Rattle.std.proofs.Common.{◌≡◌, ℕ, ◌<◌, true, false, List, [], ◌∷◌, ◌++◌, length, refl, sym, ◌∙◌, ap, subst, inl, inr, Option, Some, None, arith, cond}
 use Rattle.std.specs.Prelude.{is_some, option_and_then}
 use Rattle.std.specs.Option.{option_map_or}
-use Rattle.std.proofs.lemmas.Bool.{both_ways, eq-eqb, false_from_ne_true, false≢true}
+use Rattle.std.proofs.lemmas.Bool.{both_ways, false_from_ne_true, false≢true}
 use Rattle.mc_text.specs.Routes.{Route}
 use Rattle.tree_trait.specs.declared.file_system.Node.{Node}
 use Rattle.tree_trait.specs.declared.file_system.FileSystem.{FileSystem}
@@ -19,14 +19,14 @@ use Rattle.laws_crash.specs.Guarded.{Marks}
 use Rattle.laws_crash.proofs.Guarding.{find_same, folder_kept, found_there, same_quiet}
 use Rattle.laws_crash.proofs.Leading.{current_more}
 use Rattle.laws_crash.proofs.Tops.{none_below, under_made, under_moved, under_removed}
-use Rattle.laws_sessions.specs.Doubt.{is_pending, name_waits, is_joint}
+use Rattle.laws_sessions.specs.Doubt.{is_pending, name_waits}
 use Rattle.laws_sessions.proofs.Changing.{none_below_file, said_one, said_two, some_is, some_none}
-use Rattle.laws_sessions.proofs.Untouched.{IsAsFound, IsBare, found_bare, IsUntouched, NoneOver, none_joint, none_waits, over_it, untouched_free, way_sure}
-use Rattle.laws_sessions.proofs.Knowing.{IsCalmIn, IsKept, HistoryFacts}
-use Rattle.laws_sessions.proofs.Pending.{is_within, pending_less, quiet_within}
-use Rattle.laws_sessions.proofs.Resting.{IsOfFiles, IsSureFolder, bare_unjoined, folder_at, folder_at_of, stands_at, sure_path, sure_still, unjoined_at}
-use Rattle.laws_sessions.proofs.Restless.{IsUnjoined, joint_before}
-use Rattle.laws_sessions.proofs.WaitsFor.{pending_synced}
+use Rattle.laws_sessions.proofs.NameWaits.{NameWaits, waits_after, waits_calm}
+use Rattle.laws_sessions.proofs.Untouched.{IsAsFound, IsBare, found_bare, IsUntouched, NoneOver, none_waits, over_it, untouched_free, way_sure}
+use Rattle.laws_sessions.proofs.Knowing.{HasCalmMode, IsKept, HistoryFacts}
+use Rattle.laws_sessions.proofs.Pending.{pending_less}
+use Rattle.laws_sessions.proofs.Resting.{IsOfFiles, IsSureFolder, folder_at, folder_at_of, stands_at, sure_path, sure_still}
+use Rattle.laws_sessions.proofs.WaitsAlone.{WaitsAlone, alone_quiet, within_gone}
 
 -- no change of these names of the folder waits
 abbrev pub NoneWait : CallLog → Route → List (List ℕ) → Type 0
@@ -36,13 +36,12 @@ NoneWait log up coming = (name : List ℕ) → Among coming name → name_waits 
 pub record IsFilling (log : CallLog) (up : Route) (coming : List (List ℕ)) : Type 0 where
   pub firm : IsSureFolder log up
   pub calm : NoneWait log up coming
-  pub apart : IsUnjoined log up
 
--- one that was made, and isn't on the disk yet
+-- one that was made, and isn't on the disk yet: its own name waits for the sync of the folder around alone
 pub record IsNew (log : CallLog) (up : Route) (coming : List (List ℕ)) : Type 0 where
   pub stands : folder_at (current log) up ≡ true
   pub calm : NoneWait log up coming
-  pub apart : IsUnjoined log up
+  pub alone : WaitsAlone log up
 
 -- It begins where no dirty folder lies on its mount, nor on that of a folder on the way to it.
 pub filling_begins : (told : HistoryFacts) (dirty : List Route) (marks : Marks) (log : CallLog) (up : Route) (f : ℕ) (coming : List (List ℕ)) → IsKept told dirty marks log → find (current log) up ≡ Some f → is_folder (node (current log) f) ≡ true
@@ -50,7 +49,6 @@ pub filling_begins : (told : HistoryFacts) (dirty : List Route) (marks : Marks) 
 filling_begins told dirty marks log up f coming kept at folder owed = record {
   firm = record { stands = folder_at_of (current log) up f at folder; sure = way_sure told dirty marks log up kept.known owed };
   calm = λ name among. none_waits told dirty marks log up kept.known (over_it (current log) up dirty owed) name;
-  apart = none_joint told dirty marks log up kept.known (over_it (current log) up dirty owed);
 }
 
 -- What is met next, where nothing stands, is untouched.
@@ -62,15 +60,15 @@ met_untouched told dirty marks log up coming name kept filling among free =
 
 -- and where no folder stands, it is as it was found
 pub met_found : (told : HistoryFacts) (dirty : List Route) (marks : Marks) (log : CallLog) (up : Route) (coming : List (List ℕ)) (name : List ℕ) → IsKept told dirty marks log → IsFilling log up coming → Among coming name
-    → IsBare (current log) (name ∷ up) → IsCalmIn marks (current log) up → IsAsFound marks (current log) (name ∷ up)
+    → IsBare (current log) (name ∷ up) → HasCalmMode marks (current log) (name ∷ up) → IsAsFound marks (current log) (name ∷ up)
 met_found told dirty marks log up coming name kept filling among bare calm =
     let firm = filling.firm in
     found_bare told dirty marks log (name ∷ up) kept (sure_path log (name ∷ up) firm.sure (filling.calm name among)) bare
-    (λ i at. elim (calm name i at) [ inl none ↦ none | inr begins ↦ absurd (both_ways _ (bare i at) (kept.known.guarded.tree.mounts i begins)) ])
+    (λ i at. elim (calm i at) [ inl none ↦ none | inr begins ↦ absurd (both_ways _ (bare i at) (kept.known.guarded.tree.mounts i begins)) ])
 
 -- fewer names are yet to be met
 pub filling_fewer : (log : CallLog) (up : Route) (coming fewer : List (List ℕ)) → ((name : List ℕ) → Among fewer name → Among coming name) → IsFilling log up coming → IsFilling log up fewer
-filling_fewer log up coming fewer less filling = record { firm = filling.firm; calm = λ name among. filling.calm name (less name among); apart = filling.apart }
+filling_fewer log up coming fewer less filling = record { firm = filling.firm; calm = λ name among. filling.calm name (less name among) }
 
 -- what a folder's names wait for hangs on its node
 waits_in : (log : CallLog) (up : Route) (f : ℕ) (name : List ℕ) → find (current log) up ≡ Some f → name_waits log (name ∷ up) ≡ is_pending f name log.changes
@@ -85,15 +83,11 @@ calm_still log c up f coming at then apart calm name among =
       | inr new ↦ apart name among new
     ])
 
--- nor does a renaming then, for the folder and another one
-apart_still : (log : CallLog) (c : Change) (up : Route) (f : ℕ) → is_within c ≡ true → find (current log) up ≡ Some f → find (current (with_change log c)) up ≡ Some f → IsUnjoined log up → IsUnjoined (with_change log c) up
-apart_still log c up f one at then apart = unjoined_at log c up one (λ g now. at ∙ (sym then ∙ now)) apart
-
 still_folder : (log : CallLog) (c : Change) (i : ℕ) → i < length (current log).nodes → is_folder (node (current log) i) ≡ true → is_folder (node (current (with_change log c)) i) ≡ true
 still_folder log c i there folder = ap (λ (s : FileSystem). is_folder (node s i)) (current_more log c) ∙ (folder_kept (current log) c i there ∙ folder)
 
 -- A change after which each folder stands where it stood, and that touches no name of one.
-module _ (log : CallLog) (c : Change) (tree : IsTree (current log)) (one : is_within c ≡ true)
+module _ (log : CallLog) (c : Change) (tree : IsTree (current log))
     (stays : (q : Route) (g : ℕ) → find (current log) q ≡ Some g → is_folder (node (current log) g) ≡ true → find (current (with_change log c)) q ≡ Some g)
     (apart : (g : ℕ) (m : List ℕ) (j : ℕ) → is_some (says c 0 g m) ≡ true → lookup (current log).names g m ≡ Some j → is_folder (node (current log) j) ≡ true → ⊥) where
   sure_after : (up : Route) → IsSureFolder log up → IsSureFolder (with_change log c) up
@@ -113,7 +107,6 @@ module _ (log : CallLog) (c : Change) (tree : IsTree (current log)) (one : is_wi
       record {
         firm = sure_after up firm;
         calm = calm_still log c up there.i coming there.at (stays up there.i there.at there.folder) (other there.i there.at) filling.calm;
-        apart = apart_still log c up there.i one there.at (stays up there.i there.at there.folder) filling.apart;
       }
 
 -- the folder in which a name changes isn't this one, or the name is none of those that are yet to be met
@@ -148,7 +141,7 @@ module _ (log : CallLog) (tree : IsTree (current log)) (q : Route) (g : ℕ) (at
         some_none j (sym leads ∙ subst (λ n. lookup (current log).names n m ≡ None) e.0 (subst (λ n. lookup (current log).names g n ≡ None) e.1 free))
 
     pub filling_made : (up : Route) (coming : List (List ℕ)) → IsOff q k up coming → IsFilling log up coming → IsFilling (with_change log makes) up coming
-    filling_made up coming off = filling_still log makes tree refl stays_made made_apart up coming
+    filling_made up coming off = filling_still log makes tree stays_made made_apart up coming
         (λ f stands name among said. off_name log q up g f k name coming tree at stands off among (said_one (same_name g k f name) (Some 0) said))
 
     -- it is a folder: nothing waits in it yet
@@ -183,13 +176,16 @@ module _ (log : CallLog) (tree : IsTree (current log)) (q : Route) (g : ℕ) (at
             absurd (omega (arith, e, there))
       ])
 
-      pub folder_opens : (coming : List (List ℕ)) → IsNew now (k ∷ q) coming
-      folder_opens coming = record {
+      its_own : name_waits log (k ∷ q) ≡ false → WaitsAlone now (k ∷ q)
+      its_own none f there =
+          let same : f ≡ g = some_is g f (sym (stays_made q g at holds) ∙ there) in
+          subst (λ n. NameWaits now n k (n ∷ [])) (sym same) (waits_after g k log makes (g ∷ []) (within_gone g k makes refl) (waits_calm g k log (sym (waits_in log q g k at) ∙ none)))
+
+      pub folder_opens : (coming : List (List ℕ)) → name_waits log (k ∷ q) ≡ false → IsNew now (k ∷ q) coming
+      folder_opens coming none = record {
         stands = folder_at_of (current now) (k ∷ q) new new_at new_folder;
         calm = λ m among. waits_in now (k ∷ q) new m new_at ∙ calm_new m;
-        apart = λ f other at. false_from_ne_true _ (λ joint.
-            let before = joint_before f other log.changes makes refl joint in
-            both_ways _ (bare_unjoined log tree files new other bare) (subst (λ j. is_joint j other log.changes ≡ true) (some_is new f (sym new_at ∙ at)) before));
+        alone = its_own none;
       }
 
   -- a part is placed where no folder stands, or removed
@@ -243,7 +239,7 @@ module _ (log : CallLog) (tree : IsTree (current log)) (q : Route) (g : ℕ) (at
       ]
 
       pub filling_placed : (up : Route) (coming : List (List ℕ)) → IsOff q target up coming → IsOff q part up coming → IsFilling log up coming → IsFilling (with_change log moves) up coming
-      filling_placed up coming off_target off_part = filling_still log moves tree (eq-eqb g g refl) stays_placed placed_apart up coming
+      filling_placed up coming off_target off_part = filling_still log moves tree stays_placed placed_apart up coming
           (λ f stands name among said. elim (said_two (same_name g target f name) (same_name g part f name) (Some i) None said) [
             | inl same ↦ off_name log q up g f target name coming tree at stands off_target among same
             | inr same ↦ off_name log q up g f part name coming tree at stands off_part among same
@@ -259,7 +255,7 @@ module _ (log : CallLog) (tree : IsTree (current log)) (q : Route) (g : ℕ) (at
     ]
 
     pub filling_removed : (up : Route) (coming : List (List ℕ)) → IsOff q part up coming → IsFilling log up coming → IsFilling (with_change log removes) up coming
-    filling_removed up coming off = filling_still log removes tree refl stays_removed
+    filling_removed up coming off = filling_still log removes tree stays_removed
         (λ h m j said found folder. part_apart h m j (said_one (same_name g part h m) None said) found folder) up coming
         (λ f stands name among said. off_name log q up g f part name coming tree at stands off among (said_one (same_name g part f name) None said))
 
@@ -272,10 +268,10 @@ module _ (log : CallLog) (c : Change) (tree : IsTree (current log)) (none : (n g
   stays_quiet p f stands folder = same_quiet log c (none (length (current log).nodes)) p ∙ stands
 
   pub sure_quiet : (up : Route) → IsSureFolder log up → IsSureFolder (with_change log c) up
-  sure_quiet = sure_after log c tree (quiet_within c none) stays_quiet (λ g m j said found folder. none_said g m said)
+  sure_quiet = sure_after log c tree stays_quiet (λ g m j said found folder. none_said g m said)
 
   pub filling_quiet : (up : Route) (coming : List (List ℕ)) → IsFilling log up coming → IsFilling (with_change log c) up coming
-  filling_quiet up coming = filling_still log c tree (quiet_within c none) stays_quiet (λ g m j said found folder. none_said g m said) up coming (λ f stands name among said. none_said f name said)
+  filling_quiet up coming = filling_still log c tree stays_quiet (λ g m j said found folder. none_said g m said) up coming (λ f stands name among said. none_said f name said)
 
   pub new_quiet : (up : Route) (coming : List (List ℕ)) → IsNew log up coming → IsNew (with_change log c) up coming
   new_quiet up coming new =
@@ -284,7 +280,7 @@ module _ (log : CallLog) (c : Change) (tree : IsTree (current log)) (none : (n g
       record {
         stands = folder_at_of (current (with_change log c)) up there.i then (still_folder log c there.i (found_there (current log) tree up there.i there.at) there.folder);
         calm = calm_still log c up there.i coming there.at then (λ name among said. none_said there.i name said) new.calm;
-        apart = apart_still log c up there.i (quiet_within c none) there.at then new.apart;
+        alone = alone_quiet log c none up new.alone;
       }
 
 -- A folder that was made is on the disk once the one around it was synced.
@@ -298,8 +294,7 @@ opens_synced log q g k coming tree at outer new =
     record {
       firm = record {
         stands = then.stands;
-        sure = sure_path (with_change log (Syncs g)) (k ∷ q) still.sure (waits_in (with_change log (Syncs g)) q g k at_now ∙ pending_synced g k log.changes (λ other. outer.apart g other at));
+        sure = sure_path (with_change log (Syncs g)) (k ∷ q) still.sure (waits_in (with_change log (Syncs g)) q g k at_now ∙ new.alone g at);
       };
       calm = then.calm;
-      apart = then.apart;
     }

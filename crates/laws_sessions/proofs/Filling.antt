@@ -26,7 +26,7 @@ use Rattle.copy_file.proofs.FilledParts.{Holds, written_on}
 use Rattle.job_reports.proofs.PermittedCalls.{IsMaking, making_passes}
 use Rattle.copy_move.specs.declared.run.Course.TheVariants.{GoesOn}
 use Rattle.laws_sessions.proofs.Calming.{written_known}
-use Rattle.laws_sessions.proofs.Knowing.{IsCalmFolder, IsKept, IsKnown, HistoryFacts, settled_marks}
+use Rattle.laws_sessions.proofs.Knowing.{IsCalmPath, IsKept, IsKnown, HistoryFacts, settled_marks}
 use Rattle.laws_sessions.proofs.JobKnows.{FileKnows, HasName, HasPart, IsAsFound, IsFilled, none_of_part, part_settled}
 use Rattle.laws_sessions.proofs.Quiet.{kind_same}
 use Rattle.laws_sessions.proofs.OpenTargets.{IsOpen}
@@ -41,12 +41,12 @@ making_stands log now c k d =
     let passes = making_passes (current log) (part_name c.job k) (folder_of c.target) (part_mode (node (current log) (found_node (current log) c.source)).mode) d.permits in
     folder_at_of (current log) (folder_of c.target) (found_node (current log) (folder_of c.target)) passes.folder passes.holds
 
--- A file's part is made by a copy whose target lies in this folder, and that may change these folders: both that folder and the file's own are on the disk, and
--- in none of those a mode waits.
+-- A file's part is made by a copy whose target lies in this folder, and whose own these paths are: both that folder and the file's own are on the disk, and
+-- those paths are calm.
 module _ (told : HistoryFacts) (dirty dirty_after : List Route) (marks : Marks) (log now : CallLog) (kept : IsKept told dirty marks log) (c : Copying) (unclaimed : Route → Type 0) (said : SourceFacts) (k : ℕ) (target_name : HasName c.target)
     (ready : IsOpen (current log) (places_of c)) (is_said : AreFactsOf (current log) c.source said) (free : IsFirstFree (current log) unclaimed (places_of c) k) (none : told.part ≡ None)
     (as_it_was : IsAsFound marks (current log) c.target) (d : IsDoneCall log (making (current log) (places_of c) k) now) (firm : IsSureFolder log (folder_of c.target)) (around : Route) (around_firm : IsSureFolder log around) (own : Route → Bool)
-    (own_here : own (folder_of c.target) ≡ true) (own_calm : (p : Route) → own p ≡ true → IsCalmFolder marks log p) (listed : Among dirty_after (folder_of c.target)) (more : (q : Route) → Among dirty q → Among dirty_after q) where
+    (own_calm : (p : Route) → own p ≡ true → IsCalmPath marks log p) (listed : Among dirty_after (folder_of c.target)) (more : (q : Route) → Among dirty q → Among dirty_after q) where
   abbrev up : Route
   up = folder_of c.target
 

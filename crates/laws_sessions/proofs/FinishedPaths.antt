@@ -1,5 +1,5 @@
 -- A finished job has left no path in doubt that it may change.
-use Rattle.std.proofs.Common.{◌≡◌, ◌⊎◌, ℕ, Bool, true, false, not, List, [], ◌∷◌, ◌++◌, refl, sym, ◌∙◌, ap, subst, inl, inr, Option, Some, None}
+use Rattle.std.proofs.Common.{◌≡◌, ◌⊎◌, ℕ, true, false, not, List, [], ◌∷◌, ◌++◌, refl, sym, ◌∙◌, ap, subst, inl, inr, Option, Some, None}
 use Rattle.std.specs.Prelude.{◌||◌}
 use Rattle.std.specs.Option.{option_map_or}
 use Rattle.std.proofs.lemmas.Bool.{false≢true, true≢false, both_ways, false_from_ne_true, or_cases}
@@ -19,12 +19,12 @@ use Rattle.job_reports.specs.declared.report.Did.TheVariants.{Ended}
 use Rattle.session_entries.specs.declared.history.Entry.{Entry}
 use Rattle.copy_move.specs.declared.run.Course.{Course}
 use Rattle.copy_move.specs.declared.run.Course.TheVariants.{GoesOn, Asking, InTrouble, OwedSyncFailed, Skips, Ends}
-use Rattle.delete_job.specs.Deletions.{begun_deletion}
+use Rattle.job_reports.specs.Jobs.{ItemOfJob}
+use Rattle.delete_job.specs.Deletions.{Deleting}
 use Rattle.copy_move.specs.declared.work.Work.{Work}
 use Rattle.make_job.specs.declared.making.MakingStage.{MakingStage}
 use Rattle.make_job.specs.declared.making.MakingStage.TheVariants as making
 use Rattle.copy_move.specs.declared.work.Work.TheVariants.{Copy, Delete, Make, Move, SetMode, RemoveEmptied}
-use Rattle.make_job.specs.Makings.{Making}
 use Rattle.make_job.specs.Makings as makings
 use Rattle.move_job.specs.declared.moving.MovingStage.{MovingStage}
 use Rattle.move_job.specs.declared.moving.MovingStage.TheVariants as moving
@@ -40,20 +40,22 @@ use Rattle.copy_move.specs.Settling.{WorkLeaves, changed_folder, is_own}
 use Rattle.job_reports.specs.Paths.{folder_of}
 use Rattle.copy_move.specs.JobStepReports.{LeavesDirty, Walks, WalksOn}
 use Rattle.laws_sessions.specs.Doubt.{IsMountInDoubt, is_unsettled, name_waits, node_waits, way_waits}
-use Rattle.laws_sessions.proofs.OwnFolders.{IsNoMatter, is_own_path, may_change}
+use Rattle.laws_sessions.proofs.OwnFolders.{may_change, may_hold_parts}
 use Rattle.session_entries.specs.Named.{has_changed, named_parts}
+use Rattle.laws_sessions.specs.Touched.{touches}
 use Rattle.laws_sessions.specs.Traces.{IsTraced, IsUnclaimed, Stand, WorkLeads}
 use Rattle.tree_trait.specs.Refusals.{is_folder}
 use Rattle.laws_sessions.proofs.Histories.{IsReached, traced_reached}
-use Rattle.laws_sessions.proofs.Owing.{calm_at, calm_there, owed_modes, owed_names}
-use Rattle.laws_sessions.proofs.Intact.{own_folder, prefix_way}
+use Rattle.laws_sessions.proofs.Owing.{calm_at, calm_listed, calm_there, owed_modes}
+use Rattle.laws_sessions.proofs.Intact.{own_folder}
 use Rattle.laws_sessions.proofs.JobKnows.{WorkKnows}
 use Rattle.laws_sessions.proofs.Knowing.{HistoryFacts}
 use Rattle.laws_sessions.proofs.KnownParts.{HasName}
 use Rattle.laws_sessions.proofs.MoveKnown.{IsMovedIn, MoveKnown, is_moved}
+use Rattle.laws_sessions.proofs.PathsBelow.{below_way, in_or_below, is_below}
 use Rattle.laws_sessions.proofs.Reports.{JobsKnow}
 use Rattle.laws_sessions.proofs.Resting.{IsSureFolder, sure_path}
-use Rattle.laws_sessions.proofs.Sources.{item_in, making_changed, making_changes}
+use Rattle.laws_sessions.proofs.Sources.{item_in, making_changes, making_holds, making_touched}
 use Rattle.laws_sessions.proofs.Prefixes.{calm_told, folders_told, told_of}
 use Rattle.laws_sessions.proofs.SureThings.{IsSureThing}
 use Rattle.laws_sessions.proofs.Tidy.{IsGoing, TidyFolder}
@@ -123,77 +125,57 @@ finished_folder opening tree settled newest stand now job traced jobs_is changed
     let tidy : IsTidyJob opening newest stand.dirty now job = subst (λ js. AreTidy opening newest stand.dirty now js) jobs_is (traced_tidy opening tree settled newest stand now traced) in
     tidy.stands changed
 
--- work that changes names in one folder, or at and below its target
-abbrev IsOfNames : Work → Type 0
-IsOfNames (SetMode s) = ⊥
-IsOfNames (Move m) = ⊥
-IsOfNames work = Unit {0}
+-- a mount in doubt is no matter of work that changes names around it
+abbrev pub IsNoMatter : Work → CallLog → Route → Type 0
+IsNoMatter (SetMode s) log path = ⊥
+IsNoMatter work log path = IsMountInDoubt log path
 
--- a folder in which it may change names is the one that holds what it changes, or lies in another one
-may_above : (work : Work) (up : Route) → IsOfNames work → may_change (item_in work) up ≡ true → (up ≡ changed_folder work) ⊎ (may_change (item_in work) (folder_of up) ≡ true)
-may_above (SetMode s) up names own = absurd names
-may_above (Make m) up names own = inl (same_path-true up (folder_of m.path) (making_changed m.thing m.path up own))
-may_above (Move m) up names own = absurd names
-may_above (Copy c) up names own = elim (or_cases (same_path up (folder_of c.top.target)) (is_prefix c.top.target up) own) [
-  | inl here ↦ inl (same_path-true up (folder_of c.top.target) here)
-  | inr within ↦ inr (own_folder (begun_deletion c.top.target) up (folder_of up) within refl)
-]
-may_above (RemoveEmptied r) up names own = inl (same_path-true up (folder_of r.path) own)
-may_above (Delete d) up names own = elim (or_cases (same_path up (folder_of d.path)) (is_prefix d.path up) own) [
-  | inl here ↦ inl (same_path-true up (folder_of d.path) here)
-  | inr within ↦ inr (own_folder d up (folder_of up) within refl)
-]
+-- a part that the job named, and that is one still
+abbrev pub IsPartStill : List Entry → Running → Route → Type 0
+IsPartStill g job path = (may_hold_parts (item_in job.work) (folder_of path) ≡ true) × Among (named_parts g) path
 
--- its own paths lie in these
-own_may : (work : Work) (path : Route) → IsOfNames work → is_own_path work path ≡ true → may_change (item_in work) (folder_of path) ≡ true
-own_may (Copy c) path names own = own
-own_may (Delete d) path names own = own
-own_may (Make m) path names own = making_changes m.thing m.path (folder_of path) own
-own_may (Move m) path names own = absurd names
-own_may (SetMode s) path names own = absurd names
-own_may (RemoveEmptied r) path names own = own
-
--- so where that one isn't in doubt, and nothing waits in these, nothing there is
-may_settled : (log : CallLog) (work : Work) → IsOfNames work → way_waits log (changed_folder work) ≡ false → ((p : Route) → may_change (item_in work) (folder_of p) ≡ true → name_waits log p ≡ false) → (path : Route)
-    → may_change (item_in work) (folder_of path) ≡ true → way_waits log path ≡ false
-may_settled log work names firm calm [] own = refl
-may_settled log work names firm calm (name ∷ up) own = by (may_settled log work names firm calm up) (may_above work up names own)
-  where
-    by : (may_change (item_in work) (folder_of up) ≡ true → way_waits log up ≡ false) → (up ≡ changed_folder work) ⊎ (may_change (item_in work) (folder_of up) ≡ true) → way_waits log (name ∷ up) ≡ false
-    by above (inl here) = sure_path log (name ∷ up) (subst (λ q. way_waits log q ≡ false) (sym here) firm) (calm (name ∷ up) own)
-    by above (inr within) = sure_path log (name ∷ up) (above within) (calm (name ∷ up) own)
+-- where the folder that holds a path isn't in doubt, and no name at or below the path waits, nothing there is
+sure_below : (log : CallLog) (top : Route) → way_waits log (folder_of top) ≡ false → ((p : Route) → is_prefix top p ≡ true → name_waits log p ≡ false) → (rest : Route) → way_waits log (rest ++ top) ≡ false
+sure_below log top firm none [] = sure_path log top firm (none top (is_below top []))
+sure_below log top firm none (name ∷ rest) = sure_path log (name ∷ rest ++ top) (sure_below log top firm none rest) (none (name ∷ rest ++ top) (is_below top (name ∷ rest)))
 
 module _ (opening now : CallLog) (newest : List Entry) (stand : Stand) (path : Route) (tree : IsTree (current opening)) (settled : all_settled opening.changes ≡ true) (traced : IsTraced opening newest stand now) where
-  -- nor does a mode, parts aside, but where another mount begins
-  own_calm : (Among (named_parts newest) path → ⊥) → (IsMountInDoubt now path → ⊥) → calm_told newest (folder_of path) ≡ true → node_waits now path ≡ false
-  own_calm unnamed no_mount calm = false_from_ne_true (node_waits now path) (λ waits.
-      both_ways _ (calm_there opening now newest stand path tree settled traced unnamed calm (false_from_ne_true _ (λ begins. no_mount (record { begins = begins; waits = waits })))) waits)
-
   abbrev IsLeft : Work → Type 0
   IsLeft work = (way_waits now path ≡ false) × ((Among (named_parts newest) path → ⊥) → (IsNoMatter work now path → ⊥) → is_unsettled now path ≡ false)
 
-  -- of work that changes names
-  names_left : (work : Work) → IsOfNames work → way_waits now (changed_folder work) ≡ false → ((p : Route) → may_change (item_in work) (folder_of p) ≡ true → name_waits now p ≡ false)
-      → ((q : Route) → may_change (item_in work) q ≡ true → calm_told newest q ≡ true) → is_own_path work path ≡ true
-      → (way_waits now path ≡ false) × ((Among (named_parts newest) path → ⊥) → (IsMountInDoubt now path → ⊥) → is_unsettled now path ≡ false)
-  names_left work names firm none calm own =
-      let may = own_may work path names own in
-      let sure = may_settled now work names firm none path may in
-      (sure, λ unnamed no_mount. ap (λ b. b || node_waits now path) sure ∙ own_calm unnamed no_mount (calm (folder_of path) may))
+  abbrev IsLeftCalm : Type 0
+  IsLeftCalm = (way_waits now path ≡ false) × ((Among (named_parts newest) path → ⊥) → (IsMountInDoubt now path → ⊥) → is_unsettled now path ≡ false)
+
+  -- a path that isn't in doubt, where no mode waits of what stands there, parts aside, but where another mount begins
+  calm_left : way_waits now path ≡ false → ((Among (named_parts newest) path → ⊥) → (visible_tree (current now) path).is_mount ≡ false → node_waits now path ≡ false) → IsLeftCalm
+  calm_left sure calm = (
+    sure,
+    λ unnamed no_mount. ap (λ b. b || node_waits now path) sure
+        ∙ false_from_ne_true (node_waits now path) (λ waits. both_ways _ (calm unnamed (false_from_ne_true _ (λ begins. no_mount (record { begins = begins; waits = waits })))) waits),
+  )
+
+  -- so it is of one that is said to be calm
+  told_left : way_waits now path ≡ false → calm_told newest path ≡ true → IsLeftCalm
+  told_left sure calm = calm_left sure (λ unnamed no_mount. calm_there opening now newest stand path tree settled traced unnamed calm no_mount)
 
   abbrev seen : IsReached opening newest stand now
   seen = traced_reached opening tree settled newest stand now traced
 
-  -- what waits lies in a folder that is listed, where no renaming waits for it and another one
-  unlisted : (own : Route → Bool) → ((q : Route) → own q ≡ true → Among stand.dirty q → ⊥) → ((q : Route) → own q ≡ true → calm_told newest q ≡ true) → (p : Route) → own (folder_of p) ≡ true → name_waits now p ≡ false
-  unlisted own off calm p within = false_from_ne_true (name_waits now p) (λ waits. elim (owed_names opening now newest stand p tree settled traced waits) [
-    | inl among ↦ off (folder_of p) within among
-    | inr other ↦ (let j = other.2 in let still = seen.kept.known.calm (folder_of p) (calm (folder_of p) within) in both_ways _ (still.apart j.f j.g j.at) j.joint)
-  ])
+  -- what waits of a calm name lies in a folder that is listed
+  unlisted : (p : Route) → calm_told newest p ≡ true → (Among stand.dirty (folder_of p) → ⊥) → name_waits now p ≡ false
+  unlisted p calm off = false_from_ne_true (name_waits now p) (λ waits. off (calm_listed opening now newest stand p tree settled traced calm waits))
 
-  making_none : (m : Making) → ((q : Route) → is_own (Make m) q ≡ true → Among stand.dirty q → ⊥) → ((q : Route) → may_change (item_in (Make m)) q ≡ true → calm_told newest q ≡ true) → (p : Route) → may_change (item_in (Make m)) (folder_of p) ≡ true
-      → name_waits now p ≡ false
-  making_none m off calm p may = unlisted (is_own (Make m)) off (λ q own. calm q (making_changes m.thing m.path q own)) p (making_changed m.thing m.path (folder_of p) may)
+  -- of work that removes a thing with all that lies in it
+  deletion_left : (d : Deleting) → way_waits now (folder_of d.path) ≡ false → ((q : Route) → is_own (Delete d) q ≡ true → Among stand.dirty q → ⊥) → ((p : Route) → is_prefix d.path p ≡ true → calm_told newest p ≡ true) → is_prefix d.path path ≡ true → IsLeftCalm
+  deletion_left d firm off calm own =
+      let w = below_way d.path path own in
+      told_left (ap (way_waits now) w.1 ∙ sure_below now d.path firm (λ p below. unlisted p (calm p below) (off (folder_of p) (own_folder d p (folder_of p) below refl))) w.0) (calm path own)
+
+  -- and of work that makes or removes one name
+  name_left : (top : Route) → way_waits now (folder_of top) ≡ false → (Among stand.dirty (folder_of top) → ⊥) → calm_told newest top ≡ true → path ≡ top → IsLeftCalm
+  name_left top firm off calm same =
+      let here : calm_told newest path ≡ true = ap (calm_told newest) same ∙ calm in
+      told_left (ap (way_waits now) same ∙ sure_path now top firm (unlisted top calm off)) here
 
   -- and of work that sets a mode: its thing isn't dirty
   mode_left : (s : Setting) → way_waits now (folder_of s.path) ≡ false → (Among stand.dirty s.path → ⊥) → name_waits now s.path ≡ false → path ≡ s.path → IsLeft (SetMode s)
@@ -203,54 +185,41 @@ module _ (opening now : CallLog) (newest : List Entry) (stand : Stand) (path : R
 
   -- and of a copy
   module _ (c : SubtreeCopying) (left : TreeLeft (told_of opening now newest seen.part) seen.marks now c) where
-    -- no mode waits of anything else in the folder that holds the target
-    beside_calm : (name : List ℕ) → path ≡ name ∷ folder_of c.top.target → ((i : ℕ) → find (current now) path ≡ Some i → name ∷ folder_of c.top.target ≡ c.top.target → is_folder (node (current now) i) ≡ false) → (Among (named_parts newest) path → ⊥) → (IsMountInDoubt now path → ⊥) → node_waits now path ≡ false
-    beside_calm name is other unnamed no_mount = elim left.around [
-      | inl calm ↦ own_calm unnamed no_mount (ap (λ q. calm_told newest (folder_of q)) is ∙ calm)
-      | inr but ↦ false_from_ne_true (node_waits now path) (λ waits.
-          both_ways _ (calm_at opening now newest stand path tree settled traced unnamed (λ i at. but.1 name i (other i at) (ap (find (current now)) (sym is) ∙ at)) (false_from_ne_true _ (λ begins. no_mount (record { begins = begins; waits = waits })))) waits)
+    names_none : (p : Route) → is_own (Copy c) (folder_of p) ≡ true → name_waits now p ≡ false
+    names_none [] own = refl
+    names_none (name ∷ up) own = left.names name up own
+
+    -- of what stands at the target no mode waits, nor of what lies below it
+    at_target : path ≡ c.top.target → ((i : ℕ) → find (current now) path ≡ Some i → is_folder (node (current now) i) ≡ false) → (Among (named_parts newest) path → ⊥) → (visible_tree (current now) path).is_mount ≡ false → node_waits now path ≡ false
+    at_target is bare unnamed no_mount = elim left.around [
+      | inl calm ↦ calm_there opening now newest stand path tree settled traced unnamed (ap (calm_told newest) is ∙ calm) no_mount
+      | inr but ↦ calm_at opening now newest stand path tree settled traced unnamed (λ i at. but.1 i (ap (find (current now)) (sym is) ∙ at) (bare i at)) no_mount
     ]
 
-    -- nor of what lies below the target, and of the target, unless no folder stands there
-    within_calm : (rest : Route) → path ≡ rest ++ c.top.target → (node_waits now path ≡ false) ⊎ ((rest ≡ []) × ((i : ℕ) → find (current now) path ≡ Some i → is_folder (node (current now) i) ≡ false))
-    within_calm rest is = by (find (current now) path) refl
+    none_waits : (rest : Route) → path ≡ rest ++ c.top.target → (Among (named_parts newest) path → ⊥) → (visible_tree (current now) path).is_mount ≡ false → node_waits now path ≡ false
+    none_waits rest is unnamed no_mount = by (find (current now) path) refl
       where
-        by : (o : Option ℕ) → find (current now) path ≡ o → (node_waits now path ≡ false) ⊎ ((rest ≡ []) × ((i : ℕ) → find (current now) path ≡ Some i → is_folder (node (current now) i) ≡ false))
-        by None at = inl (ap (λ x. option_map_or (λ i. not (is_clean i now.changes)) x false) at)
+        by : (o : Option ℕ) → find (current now) path ≡ o → node_waits now path ≡ false
+        by None at = ap (λ x. option_map_or (λ i. not (is_clean i now.changes)) x false) at
         by (Some i) at = elim (left.calm rest i (ap (find (current now)) (sym is) ∙ at)) [
-          | inl clean ↦ inl (ap (λ x. option_map_or (λ i. not (is_clean i now.changes)) x false) at ∙ ap not clean)
-          | inr b ↦ inr (b.0, λ j also. subst (λ k. is_folder (node (current now) k) ≡ false) (let e : Some i ≡ Some j = sym at ∙ also in cc) b.1)
+          | inl clean ↦ ap (λ x. option_map_or (λ i. not (is_clean i now.changes)) x false) at ∙ ap not clean
+          | inr b ↦ at_target (is ∙ ap (λ q. q ++ c.top.target) b.0) (λ j also. subst (λ k. is_folder (node (current now) k) ≡ false) (let e : Some i ≡ Some j = sym at ∙ also in cc) b.1) unnamed no_mount
         ]
 
-    none_waits : (Among (named_parts newest) path → ⊥) → (IsMountInDoubt now path → ⊥) → (p : Route) → path ≡ p → may_change (item_in (Copy c)) (folder_of p) ≡ true → node_waits now path ≡ false
-    none_waits unnamed no_mount [] is own = false_from_ne_true (node_waits now path) (λ waits. no_mount (record {
-      begins = ap (λ q. (visible_tree (current now) q).is_mount) is ∙ seen.kept.known.guarded.tree.mounted;
-      waits = waits;
-    }))
-    none_waits unnamed no_mount (name ∷ up) is own = elim (or_cases (same_path up (folder_of c.top.target)) (is_prefix c.top.target up) own) [
-      | inl here ↦ by_name (same_path (name ∷ up) c.top.target) refl (same_path-true up (folder_of c.top.target) here)
-      | inr within ↦
-          let w = prefix_way c.top.target up within in
-          elim (within_calm (name ∷ w.0) (is ∙ ap (λ q. (let r : Route = name ∷ q in r)) w.1)) [ inl none ↦ none | inr b ↦ absurd (let e : (name ∷ w.0) ≡ [] = b.0 in let f : ⊥ = cc in f) ]
-    ]
+    copied_left : way_waits now (folder_of c.top.target) ≡ false → is_prefix c.top.target path ≡ true → IsLeftCalm
+    copied_left firm own =
+        let w = below_way c.top.target path own in
+        calm_left (ap (way_waits now) w.1 ∙ sure_below now c.top.target firm (λ p below. names_none p (in_or_below c.top.target p below)) w.0) (none_waits w.0 w.1)
+
+    -- and a part that it named waits for nothing but as a part
+    part_left : way_waits now (folder_of c.top.target) ≡ false → is_own (Copy c) (folder_of path) ≡ true → Among (named_parts newest) path → IsLeftCalm
+    part_left firm own named = (by (or_cases (same_path (folder_of path) (folder_of c.top.target)) (is_prefix c.top.target (folder_of path)) own), λ unnamed none. absurd (unnamed named))
       where
-        by_name : (b : Bool) → same_path (name ∷ up) c.top.target ≡ b → up ≡ folder_of c.top.target → node_waits now path ≡ false
-        by_name true same here = elim (within_calm [] (is ∙ same_path-true (name ∷ up) c.top.target same)) [
-          | inl none ↦ none
-          | inr b ↦ beside_calm name (is ∙ ap (λ q. (let r : Route = name ∷ q in r)) here) (λ i at same_name. b.1 i at) unnamed no_mount
-        ]
-        by_name false off here =
-            let there : name ∷ up ≡ name ∷ folder_of c.top.target = ap (λ q. (let r : Route = name ∷ q in r)) here in
-            beside_calm name (is ∙ there) (λ i at same. absurd (both_ways _ off (subst (λ q. same_path q c.top.target ≡ true) (sym (there ∙ same)) (same_path-self c.top.target)))) unnamed no_mount
-
-    names_none : (p : Route) → may_change (item_in (Copy c)) (folder_of p) ≡ true → name_waits now p ≡ false
-    names_none [] within = refl
-    names_none (name ∷ up) within = left.names name up within
-
-    tree_left : way_waits now (folder_of c.top.target) ≡ false → is_own_path (Copy c) path ≡ true → IsLeft (Copy c)
-    tree_left firm own =
-        let sure = may_settled now (Copy c) tt firm names_none path own in
-        (sure, λ unnamed no_mount. ap (λ b. b || node_waits now path) sure ∙ none_waits unnamed no_mount path refl own)
+        by : (same_path (folder_of path) (folder_of c.top.target) ≡ true) ⊎ (is_prefix c.top.target (folder_of path) ≡ true) → way_waits now path ≡ false
+        by (inl beside) = sure_path now path (ap (way_waits now) (same_path-true (folder_of path) (folder_of c.top.target) beside) ∙ firm) (names_none path own)
+        by (inr within) =
+            let w = below_way c.top.target (folder_of path) within in
+            sure_path now path (ap (way_waits now) w.1 ∙ sure_below now c.top.target firm (λ p below. names_none p (in_or_below c.top.target p below)) w.0) (names_none path own)
 
   -- what is known of a copy or a move when it ends
   abbrev IsWhole : Work → Type 0
@@ -258,14 +227,36 @@ module _ (opening now : CallLog) (newest : List Entry) (stand : Stand) (path : R
   IsWhole (Move m) = HasName m.pair.source × (HasName m.pair.target × ((movings.is_dirty m.stage ≡ false) × IsMovedIn (told_of opening now newest seen.part) seen.marks now m))
   IsWhole work = Unit {0}
 
-  left_by : (work : Work) → way_waits now (changed_folder work) ≡ false → (knows_calm work ≡ false → (q : Route) → is_own work q ≡ true → Among stand.dirty q → ⊥) → IsSureThing (item_in work) now
-      → (knows_calm work ≡ false → (q : Route) → may_change (item_in work) q ≡ true → calm_told newest q ≡ true) → IsWhole work → is_own_path work path ≡ true → IsLeft work
-  left_by (Copy c) firm off named calm whole own = tree_left c whole firm own
-  left_by (Delete d) firm off named calm whole own = names_left (Delete d) tt firm (unlisted (is_own (Delete d)) (off refl) (calm refl)) (calm refl) own
-  left_by (Make m) firm off named calm whole own = names_left (Make m) tt firm (making_none m (off refl) (calm refl)) (calm refl) own
-  left_by (Move m) firm off named calm whole own = move_left opening now newest stand path tree settled traced m whole.0 whole.1.0 whole.1.1.0 whole.1.1.1 own
-  left_by (SetMode s) firm off named calm whole own = mode_left s firm (off refl s.path (same_path-self s.path)) named (same_path-true path s.path own)
-  left_by (RemoveEmptied r) firm off named calm whole own = names_left (RemoveEmptied r) tt firm (unlisted (is_own (RemoveEmptied r)) (off refl) (calm refl)) (calm refl) own
+  -- what a job that is finished knows of its work
+  module _ (job : Running) (firm : way_waits now (changed_folder job.work) ≡ false) (off : knows_calm job.work ≡ false → (q : Route) → is_own job.work q ≡ true → Among stand.dirty q → ⊥) (named : IsSureThing (item_in job.work) now)
+      (calm : knows_calm job.work ≡ false → (p : Route) → may_change (item_in job.work) p ≡ true → calm_told newest p ≡ true) (whole : IsWhole job.work) where
+    abbrev Own : Work → Type 0
+    Own work = (touches (item_in work) path ≡ true) ⊎ ((may_hold_parts (item_in work) (folder_of path) ≡ true) × Among (named_parts newest) path)
+
+    no_part : (item : ItemOfJob) → ((folder : Route) → may_hold_parts item folder ≡ false) → (touches item path ≡ true) ⊎ ((may_hold_parts item (folder_of path) ≡ true) × Among (named_parts newest) path) → touches item path ≡ true
+    no_part item none (inl touched) = touched
+    no_part item none (inr part) = absurd (both_ways _ (none (folder_of path)) part.0)
+
+    left_of : (work : Work) → job.work ≡ work → Own work → IsLeft work
+    left_of (Copy c) is (inl touched) = copied_left c (subst IsWhole is whole) (subst (λ w. way_waits now (changed_folder w) ≡ false) is firm) touched
+    left_of (Copy c) is (inr part) = part_left c (subst IsWhole is whole) (subst (λ w. way_waits now (changed_folder w) ≡ false) is firm) part.0 part.1
+    left_of (Delete d) is own =
+        deletion_left d (subst (λ w. way_waits now (changed_folder w) ≡ false) is firm)
+        (λ q of_it. off (ap knows_calm is) q (ap (λ w. is_own w q) is ∙ of_it)) (λ p of_it. calm (ap knows_calm is) p (ap (λ w. may_change (item_in w) p) is ∙ of_it)) (no_part (item_in (Delete d)) (λ folder. refl) own)
+    left_of (Make m) is own =
+        name_left m.path (subst (λ w. way_waits now (changed_folder w) ≡ false) is firm) (off (ap knows_calm is) (folder_of m.path) (ap (λ w. is_own w (folder_of m.path)) is ∙ same_path-self (folder_of m.path)))
+        (calm (ap knows_calm is) m.path (ap (λ w. may_change (item_in w) m.path) is ∙ making_changes m.thing m.path m.path (same_path-self m.path)))
+        (same_path-true path m.path (making_touched m.thing m.path path (no_part (item_in (Make m)) (making_holds m.thing m.path) own)))
+    left_of (Move m) is own =
+        let w : IsWhole (Move m) = subst IsWhole is whole in
+        move_left opening now newest stand path tree settled traced m w.0 w.1.0 w.1.1.0 w.1.1.1 (no_part (item_in (Move m)) (λ folder. refl) own)
+    left_of (SetMode s) is own =
+        mode_left s (subst (λ w. way_waits now (changed_folder w) ≡ false) is firm) (off (ap knows_calm is) s.path (ap (λ w. is_own w s.path) is ∙ same_path-self s.path))
+        (subst (λ w. IsSureThing (item_in w) now) is named) (same_path-true path s.path (no_part (item_in (SetMode s)) (λ folder. refl) own))
+    left_of (RemoveEmptied r) is own =
+        name_left r.path (subst (λ w. way_waits now (changed_folder w) ≡ false) is firm) (off (ap knows_calm is) (folder_of r.path) (ap (λ w. is_own w (folder_of r.path)) is ∙ same_path-self (folder_of r.path)))
+        (calm (ap knows_calm is) r.path (ap (λ w. may_change (item_in w) r.path) is ∙ same_path-self r.path))
+        (same_path-true path r.path (no_part (item_in (RemoveEmptied r)) (λ folder. refl) own))
 
 -- so it is of a copy, where it tells its end
 whole_left : (told : HistoryFacts) (dirty dirty_after : List Route) (marks : Marks) (log now : CallLog) (job new : Running) (part : Option Route) (c : SubtreeCopying) → job.work ≡ Copy c → job.course ≡ GoesOn → WorkKnows told dirty marks log job.course job.work
@@ -302,10 +293,10 @@ moved_left told dirty dirty_after marks log now job new part m is on knows tidy 
     (known.source, (known.target, (done_moving m.stage (move_done job.replies m tells.0 part (subst (λ x. WorkTells job.replies x (Ended Finished part) tells.0) is tells.1)) renamed, known.moved refl renamed)))
 
 pub paths_left : (opening now after : CallLog) (newest : List Entry) (stand : Stand) (dirty : List Route) (job new : Running) (part : Option Route) (path : Route) → IsTree (current opening) → all_settled opening.changes ≡ true → IsTraced opening newest stand now
-    → stand.jobs ≡ job ∷ [] → WorkLeads job (Ended Finished part) new stand.dirty dirty now after → has_changed job.id newest ≡ true → is_own_path job.work path ≡ true
-    → (way_waits now path ≡ false) × ((Among (named_parts newest) path → ⊥) → (IsNoMatter job.work now path → ⊥) → is_unsettled now path ≡ false)
+    → stand.jobs ≡ job ∷ [] → WorkLeads job (Ended Finished part) new stand.dirty dirty now after → has_changed job.id newest ≡ true
+    → (touches (item_in job.work) path ≡ true) ⊎ IsPartStill newest job path → (way_waits now path ≡ false) × ((Among (named_parts newest) path → ⊥) → (IsNoMatter job.work now path → ⊥) → is_unsettled now path ≡ false)
 paths_left opening now after newest stand dirty job new part path tree settled traced jobs_is works changed own =
-    left_by opening now newest stand path tree settled traced job.work firm.sure left.2 (tidy.sure changed) (tidy.calm changed) (whole job.work refl) own
+    left_of opening now newest stand path tree settled traced job firm.sure left.2 (tidy.sure changed) (tidy.calm changed) (whole job.work refl) job.work refl own
   where
     r : IsReached opening newest stand now
     r = traced_reached opening tree settled newest stand now traced

@@ -15,7 +15,7 @@ use Rattle.laws_crash.proofs.Guarding.{found_there}
 use Rattle.job_reports.specs.Jobs.{folder_changed}
 use Rattle.job_reports.specs.declared.job.Job.{Job}
 use Rattle.job_reports.specs.declared.report.Ending.TheVariants.{Finished}
-use Rattle.laws_sessions.specs.Doubt.{is_pending, way_waits}
+use Rattle.laws_sessions.specs.Doubt.{is_pending, name_waits, way_waits}
 use Rattle.tree_trait.specs.FileSystem.{find}
 use Rattle.job_reports.specs.declared.report.Did.{Did}
 use Rattle.job_reports.specs.declared.report.Did.TheVariants.{Ended}
@@ -34,6 +34,7 @@ use Rattle.laws_sessions.proofs.Going.{Goes, closed_know, closed_live, event_goe
 use Rattle.laws_sessions.proofs.Knowing.{any_since, anywhere, HistoryFacts, IsKept}
 use Rattle.laws_sessions.proofs.NamedMore.{jobs_naming, kept_naming, naming}
 use Rattle.laws_sessions.proofs.Pending.{pending_settled}
+use Rattle.laws_sessions.proofs.WaitsAlone.{alone_calm}
 use Rattle.laws_sessions.proofs.WaitsFor.{joint_settled, restless_settled}
 use Rattle.laws_sessions.proofs.Reports.{HasLive, JobsKnow}
 use Rattle.laws_sessions.proofs.Sources.{item_in}
@@ -258,7 +259,7 @@ module _ (opening : CallLog) (tree : IsTree (current opening)) (settled : all_se
         unborn = λ i past. (opening_law opening tree settled).clean i refl;
       };
       moded = λ i before is unclean. absurd (let f : ⊥ = cc in f);
-      calm = λ p there. record { modes = λ name i at. inl refl; apart = λ f g at. joint_settled f g opening.changes settled };
+      calm = λ p there. record { mode = λ i at. inl refl; alone = alone_calm opening p (none_named p) };
       folders = λ i folder. (inl refl, refl);
       aside = λ p is. absurd (false≢true is);
       left = λ p is there. absurd (false≢true is);
@@ -281,6 +282,10 @@ module _ (opening : CallLog) (tree : IsTree (current opening)) (settled : all_se
       none_by : (name : List ℕ) (o : Option ℕ) → option_map_or (λ f. is_pending f name opening.changes) o false ≡ false
       none_by name None = refl
       none_by name (Some f) = pending_settled f name opening.changes settled
+
+      none_named : (p : Route) → name_waits opening p ≡ false
+      none_named [] = refl
+      none_named (name ∷ up) = none_by name (find (current opening) up)
 
       none_unsettled : (p : Route) → way_waits opening p ≡ false
       none_unsettled [] = refl

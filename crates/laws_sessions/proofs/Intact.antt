@@ -1,14 +1,14 @@
 -- What a deletion knows of the thing that it deletes, and of what lies in it: nothing was done there yet but its own removals.
-use Rattle.std.proofs.Common.{◌≡◌, ℕ, ◌≤◌, true, false, List, [], ◌∷◌, ◌++◌, length, length-append, arith, sym, ◌∙◌, ap, subst, inl, inr, Option, Some, None}
-use Rattle.std.proofs.lemmas.Bool.{or_cases, or_left, or_right}
+use Rattle.std.proofs.Common.{◌≡◌, ℕ, ◌≤◌, true, false, List, [], ◌∷◌, ◌++◌, length, length-append, arith, sym, ◌∙◌, ap, subst, inl, inr, Option, Some, None, refl}
+use Rattle.std.proofs.lemmas.Bool.{or_left, or_right}
 use Rattle.mc_text.specs.Routes.{Route, is_prefix, same_path}
 use Rattle.mc_text.proofs.Prefixes.{same_path-lengths}
 use Rattle.tree_trait.specs.declared.file_system.FileSystem.{FileSystem}
 use Rattle.tree_trait.specs.FileSystem.{find, lookup}
 use Rattle.tree_trait.specs.Shape.{IsTree}
-use Rattle.tree_trait.specs.Change.{CallLog, current}
+use Rattle.tree_trait.specs.Change.{CallLog, current, Removes}
 use Rattle.tree_trait.proofs.Finding.{and_then-some}
-use Rattle.tree_trait.proofs.Visible.{same_path-self, same_path-true}
+use Rattle.tree_trait.proofs.Visible.{same_path-self}
 use Rattle.laws_crash.specs.Guarded.{Marks}
 use Rattle.laws_crash.proofs.Unworked.{unworked_law}
 use Rattle.job_reports.specs.Paths.{folder_of}
@@ -18,12 +18,13 @@ use Rattle.copy_move.specs.Settling.{NoneOwed, is_own}
 use Rattle.laws_sessions.specs.Doubt.{way_waits}
 use Rattle.laws_sessions.proofs.Changing.{folder_anchored}
 use Rattle.laws_sessions.proofs.Deleted.{IsRemoval, removal_leads}
-use Rattle.laws_sessions.proofs.HollowThings.{folder_stood, sure_elsewhere}
-use Rattle.laws_sessions.proofs.JobKnows.{AreSureWithin, HasName, IsIntact, calm_in, intact_settled, none_on}
-use Rattle.laws_sessions.proofs.Knowing.{IsCalmFolder, IsCalmIn, IsKept, HistoryFacts, settled_marks}
-use Rattle.laws_sessions.proofs.Resting.{IsSureFolder, folder_at, folder_at_of}
+use Rattle.laws_sessions.proofs.HollowThings.{folder_stood, found_or_gone, sure_elsewhere}
+use Rattle.laws_sessions.proofs.JobKnows.{AreSureWithin, AreUnjoinedWithin, HasName, IsIntact, intact_settled}
+use Rattle.laws_sessions.proofs.Knowing.{IsCalmPath, IsKept, HistoryFacts, settled_marks}
+use Rattle.laws_sessions.proofs.Resting.{IsSureFolder, folder_at, folder_at_of, name_sure, unjoined_at}
 use Rattle.laws_sessions.proofs.Restless.{IsUnjoined}
-use Rattle.laws_sessions.proofs.ThingRests.{NoneWithin, around_sure, modes_within, none_in_deleted, sure_within, unjoined, unjoined_around}
+use Rattle.laws_sessions.proofs.ThingRests.{NoneWithin, around_sure, modes_within, none_in_deleted, sure_within, unjoined}
+use Rattle.laws_sessions.proofs.WaitsAlone.{alone_calm}
 pub use Rattle.laws_sessions.proofs.ThingRests.{prefix_append, prefix_way}
 
 -- the folder of what a deletion removes is its own
@@ -38,12 +39,9 @@ module _ (told : HistoryFacts) (dirty : List Route) (marks : Marks) (log : CallL
   none_in : NoneWithin (current log) d.path dirty
   none_in = none_in_deleted (current log) d dirty none
 
-  -- no renaming waits for one of the deletion's folders and another one
-  apart_begins : (q : Route) → is_own (Delete d) q ≡ true → IsUnjoined log q
-  apart_begins q own = elim (or_cases (same_path q (folder_of d.path)) (is_prefix d.path q) own) [
-    | inl here ↦ subst (IsUnjoined log) (sym (same_path-true q (folder_of d.path) here)) (unjoined_around told dirty marks log kept d.path has none_in)
-    | inr within ↦ (let way = prefix_way d.path q within in subst (IsUnjoined log) (sym way.1) (unjoined told dirty marks log kept d.path has none_in way.0))
-  ]
+  -- no renaming waits for one of its folders and another one
+  pub apart_begins : AreUnjoinedWithin log d.path
+  apart_begins rest = unjoined told dirty marks log kept d.path has none_in rest
 
   -- nor is the folder that holds the thing in doubt
   pub folder_firm : folder_at (current log) (folder_of d.path) ≡ true → IsSureFolder log (folder_of d.path)
@@ -53,18 +51,14 @@ module _ (told : HistoryFacts) (dirty : List Route) (marks : Marks) (log : CallL
   pub within_begins : AreSureWithin log d.path
   within_begins rest stands = record { stands = stands; sure = sure_within told dirty marks log kept d.path has none_in rest }
 
-  -- no mode waits in its folders
-  modes_begin : (q : Route) → is_own (Delete d) q ≡ true → IsCalmIn marks (current log) q
-  modes_begin q own = elim (or_cases (same_path q (folder_of d.path)) (is_prefix d.path q) own) [
-    | inl here ↦ subst (IsCalmIn marks (current log)) (sym (same_path-true q (folder_of d.path) here)) (let around = calm_in told dirty marks log kept (folder_of d.path) (none_on (current log) (Delete d) dirty none) in around.modes)
-    | inr within ↦
-        let way = prefix_way d.path q within in
-        λ name i at. inl (modes_within told dirty marks log kept d.path has none_in (name ∷ way.0) i (ap (find (current log)) (sym (ap (λ (p : Route). name ∷ p) way.1)) ∙ at))
-  ]
-
-  -- so they are calm
-  pub calm_begins : (q : Route) → is_own (Delete d) q ≡ true → IsCalmFolder marks log q
-  calm_begins q own = record { modes = modes_begin q own; apart = apart_begins q own }
+  -- and all is calm
+  pub calm_begins : (p : Route) → is_prefix d.path p ≡ true → IsCalmPath marks log p
+  calm_begins p own =
+      let way = prefix_way d.path p own in
+      record {
+        mode = λ i at. inl (modes_within told dirty marks log kept d.path has none_in way.0 i (ap (find (current log)) (sym way.1) ∙ at));
+        alone = alone_calm log p (name_sure log p (ap (way_waits log) way.1 ∙ sure_within told dirty marks log kept d.path has none_in way.0));
+      }
 
   -- before the first change nothing waits there, so all is as it was found
   pub intact_begins : IsIntact marks (current log) d.path
@@ -120,6 +114,14 @@ removed_sure log now top path tree within sure firm it = let w = prefix_way top 
 pub within_after : (log now : CallLog) (path top : Route) → IsTree (current log) → IsRemoval log now path → AreSureWithin log top → AreSureWithin now top
 within_after log now path top tree it sure = subst (λ (l : CallLog). AreSureWithin l top) (sym it.now_is) (λ rest stands.
     let before = folder_stood log tree path it.r it.k (rest ++ top) stands in sure_elsewhere log tree path it.r it.k (rest ++ top) before.0 (sure rest before.1))
+
+-- nor is a folder joined that wasn't
+pub apart_after : (log now : CallLog) (path top : Route) → IsTree (current log) → IsRemoval log now path → AreUnjoinedWithin log top → AreUnjoinedWithin now top
+apart_after log now path top tree it apart rest = subst (λ (l : CallLog). IsUnjoined l (rest ++ top)) (sym it.now_is)
+    (unjoined_at log (Removes it.r.f it.r.name it.k) (rest ++ top) refl (λ f at. elim (found_or_gone log tree path it.r it.k (rest ++ top)) [
+      | inl same ↦ sym same ∙ at
+      | inr gone ↦ absurd (let e : (let o : Option ℕ = None in o) ≡ Some f = sym gone ∙ at in let x : ⊥ = cc in x)
+    ]) (apart rest))
 
 pub intact_after : (told : HistoryFacts) (dirty : List Route) (marks : Marks) (log now : CallLog) (path top : Route) → IsKept told dirty marks log → (it : IsRemoval log now path) → way_waits log (folder_of path) ≡ false → IsIntact marks (current log) top
     → IsIntact (settled_marks now marks) (current now) top

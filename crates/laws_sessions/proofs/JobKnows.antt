@@ -2,7 +2,7 @@
 use Rattle.std.proofs.Common.{◌≡◌, ◌⊎◌, ℕ, Bool, true, false, ◌&&◌, ◌||◌, List, ◌∷◌, ◌++◌, refl, sym, ◌∙◌, ap, subst, inl, inr, Option, Some, None, cond}
 use Rattle.std.specs.Prelude.{is_some}
 use Rattle.std.proofs.lemmas.Bool.{both_ways}
-use Rattle.mc_text.specs.Routes.{Route}
+use Rattle.mc_text.specs.Routes.{Route, is_prefix}
 use Rattle.tree_trait.specs.declared.file_system.FileSystem.{FileSystem}
 use Rattle.tree_trait.specs.FileSystem.{find, starts_mount}
 use Rattle.tree_trait.specs.Refusals.{mount_here, mount_of}
@@ -18,13 +18,14 @@ use Rattle.copy_move.specs.declared.run.Course.{Course}
 use Rattle.copy_move.specs.declared.work.Work.{Work}
 use Rattle.copy_move.specs.declared.work.Work.TheVariants.{Copy, Delete, Make, Move, SetMode, RemoveEmptied}
 use Rattle.delete_job.specs.declared.deletion.Stage.TheVariants.{Going}
-use Rattle.job_unsynced.specs.Folders.{is_of}
 use Rattle.laws_crash.proofs.Unworked.{unworked_law}
 use Rattle.laws_sessions.specs.Doubt.{way_waits}
 use Rattle.laws_sessions.proofs.FilledFolders.{sure_quiet}
-use Rattle.laws_sessions.proofs.Knowing.{HasMode, IsCalmFolder, IsCalmIn, IsKept, HistoryFacts, settled_marks}
+use Rattle.laws_sessions.proofs.Knowing.{HasMode, IsCalmIn, IsKept, HistoryFacts, settled_marks}
 use Rattle.laws_sessions.proofs.MoveKnown.{MoveKnown, move_course, move_said, move_settled, move_still}
-use Rattle.laws_sessions.proofs.Resting.{IsSureFolder, folder_at}
+use Rattle.laws_sessions.proofs.Pending.{is_within}
+use Rattle.laws_sessions.proofs.Resting.{IsSureFolder, folder_at, unjoined_at}
+use Rattle.laws_sessions.proofs.Restless.{IsUnjoined}
 use Rattle.job_reports.specs.Paths.{folder_of}
 use Rattle.tree_trait.specs.Shape.{IsTree}
 use Rattle.tree_trait.specs.Change.{Change, Nothing, Syncs, with_change}
@@ -41,12 +42,17 @@ IsIntact marks s top = (rest : Route) → marks.aside (rest ++ top) ≡ false �
 abbrev pub AreSureWithin : CallLog → Route → Type 0
 AreSureWithin log top = (rest : Route) → folder_at (current log) (rest ++ top) ≡ true → IsSureFolder log (rest ++ top)
 
--- of a deletion that goes on: the folder that holds the thing is on the disk, too, and in it, and within the thing, no mode waits
+-- no renaming waits for a folder at or below the path and another one
+abbrev pub AreUnjoinedWithin : CallLog → Route → Type 0
+AreUnjoinedWithin log top = (rest : Route) → IsUnjoined log (rest ++ top)
+
+-- Of a deletion that goes on: the folder that holds the thing is on the disk, too; the thing and all that lies in it is calm, whatever stands beside it.
 pub record KnowsWithin (told : HistoryFacts) (marks : Marks) (log : CallLog) (top : Route) : Type 0 where
   pub intact : IsIntact marks (current log) top
   pub sure : AreSureWithin log top
   pub folder : told.folders (folder_of top) ≡ true
-  pub calm : (q : Route) → is_of (folder_of top) top q ≡ true → told.calm q ≡ true
+  pub calm : (p : Route) → is_prefix top p ≡ true → told.calm p ≡ true
+  pub apart : AreUnjoinedWithin log top
 
 abbrev pub WorkKnows : HistoryFacts → List Route → Marks → CallLog → Course → Work → Type 0
 WorkKnows told dirty marks log course (Copy c) = TreeKnown told dirty marks log course c
@@ -99,10 +105,6 @@ module _ (told : HistoryFacts) (dirty : List Route) (marks : Marks) (log : CallL
             | inr apart ↦ apart.2 (subst (λ n. apart.0 ≡ mount_number (current log).mounts n) (sym same) apart.1)
           ]))
 
-  -- so it is calm
-  pub calm_in : (up : Route) → NoneOn (current log) up dirty → IsCalmFolder marks log up
-  calm_in up none = record { modes = modes_in up none; apart = none_joint told dirty marks log up kept.known none }
-
 -- What is known of a job is known with the marks that are settled.
 module _ (log : CallLog) (marks : Marks) where
   -- what is taken back stands, or it is said of it what was said
@@ -120,7 +122,7 @@ module _ (log : CallLog) (marks : Marks) where
 
   pub work_settled : (told : HistoryFacts) (dirty : List Route) (course : Course) (work : Work) → WorkKnows told dirty marks log course work → WorkKnows told dirty (settled_marks log marks) log course work
   work_settled told dirty course (Copy c) k = tree_settled log marks told dirty course c k
-  work_settled told dirty course (Delete d) (name, none, known) = (name, none, λ is. let k = known is in record { intact = intact_settled d.path k.intact; sure = k.sure; folder = k.folder; calm = k.calm })
+  work_settled told dirty course (Delete d) (name, none, known) = (name, none, λ is. let k = known is in record { intact = intact_settled d.path k.intact; sure = k.sure; folder = k.folder; calm = k.calm; apart = k.apart })
   work_settled told dirty course (Make w) k = k
   work_settled told dirty course (Move w) k = move_settled log marks told course w k
   work_settled told dirty course (SetMode s) k = k
@@ -157,6 +159,22 @@ within_still log now top tree still sure rest stands = by still
     by (c, is, inr (f, sync)) =
         subst (λ (l : CallLog). IsSureFolder l (rest ++ top)) (sym (is ∙ ap (with_change log) sync)) (sure_quiet log (Syncs f) tree (λ n g m. refl) (rest ++ top) before)
 
+-- and none is joined that wasn't
+joined_still : (log now : CallLog) (top : Route) → IsStill log now → AreUnjoinedWithin log top → AreUnjoinedWithin now top
+joined_still log now top still apart rest = by still
+  where
+    same : (c : Change) → now ≡ with_change log c → current (with_change log c) ≡ current log
+    same c is = ap current (sym is) ∙ still_same log now still
+
+    by : IsStill log now → IsUnjoined now (rest ++ top)
+    by (c, is, how) =
+        subst (λ (l : CallLog). IsUnjoined l (rest ++ top)) (sym is)
+        (unjoined_at log c (rest ++ top) (within c how) (λ f at. ap (λ s. find s (rest ++ top)) (sym (same c is)) ∙ at) (apart rest))
+      where
+        within : (c : Change) → (c ≡ Nothing) ⊎ ((f : ℕ) × (c ≡ Syncs f)) → is_within c ≡ true
+        within c (inl none) = ap is_within none
+        within c (inr (f, sync)) = ap is_within sync
+
 -- so what is known holds on
 pub work_still : (told : HistoryFacts) (dirty : List Route) (marks : Marks) (log now : CallLog) (course : Course) (work : Work) → IsTree (current log) → IsStill log now → WorkKnows told dirty marks log course work
     → WorkKnows told dirty marks now course work
@@ -169,6 +187,7 @@ work_still told dirty marks log now course (Delete d) tree still (name, none, kn
     sure = within_still log now d.path tree still k.sure;
     folder = k.folder;
     calm = k.calm;
+    apart = joined_still log now d.path still k.apart;
   },
 )
 work_still told dirty marks log now course (Make m) tree still k = k
@@ -176,14 +195,14 @@ work_still told dirty marks log now course (Move m) tree still k = move_still to
 work_still told dirty marks log now course (SetMode s) tree still k = k
 work_still told dirty marks log now course (RemoveEmptied r) tree still k = k
 
--- What is known of a job hangs on the tree, the part, the folders on the disk and the calm folders of what a history says.
+-- What is known of a job hangs on the tree, the part, the folders on the disk and the calm paths of what a history says.
 pub work_said : (told other : HistoryFacts) → other.tree ≡ told.tree → other.part ≡ told.part → other.folders ≡ told.folders → other.calm ≡ told.calm → (dirty : List Route) (marks : Marks) (log : CallLog) (course : Course) (work : Work)
     → WorkKnows told dirty marks log course work → WorkKnows other dirty marks log course work
 work_said told other tree part folders calm dirty marks log course (Copy c) k = tree_said told other tree part folders calm dirty marks log course c k
 work_said told other tree part folders calm dirty marks log course (Delete d) (name, none, known) = (
   name,
   part ∙ none,
-  λ is. let k = known is in record { intact = k.intact; sure = k.sure; folder = ap (λ b. b (folder_of d.path)) folders ∙ k.folder; calm = λ q own. ap (λ b. b q) calm ∙ k.calm q own },
+  λ is. let k = known is in record { intact = k.intact; sure = k.sure; folder = ap (λ b. b (folder_of d.path)) folders ∙ k.folder; calm = λ q own. ap (λ b. b q) calm ∙ k.calm q own; apart = k.apart },
 )
 work_said told other tree part folders calm dirty marks log course (Make m) (name, none) = (name, part ∙ none)
 work_said told other tree part folders calm dirty marks log course (Move m) k = move_said told other part folders marks log course m k

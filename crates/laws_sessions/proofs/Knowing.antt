@@ -16,12 +16,13 @@ use Rattle.laws_crash.proofs.Guarding.{settle_law, guard_law, found_at}
 use Rattle.laws_sessions.specs.Doubt.{is_unsettled, name_waits, node_waits, way_waits, is_joint}
 use Rattle.laws_sessions.proofs.InTransit.{WasRenamed, is_in_transit, one_name}
 use Rattle.laws_sessions.proofs.Resting.{IsBeside, IsOfFiles, IsSureFolder, settled_unless}
-use Rattle.laws_sessions.proofs.Restless.{IsUnjoined, is_restless}
+use Rattle.laws_sessions.proofs.Restless.{is_restless}
 use Rattle.laws_sessions.proofs.Since.{renamed_since}
+use Rattle.laws_sessions.proofs.WaitsAlone.{WaitsAlone}
 
 -- what a history says: what each path shows, what it showed before its last change, the paths that were named as parts, the parts that
 -- ended jobs left, the part that stands, of which names a change may wait for a sync that was made after so many calls, and at which paths something may have been
--- altered after them; where folders are known to stand on the disk; of which paths a mode may wait, and the folders in which none does
+-- altered after them; where folders are known to stand on the disk; of which paths a mode may wait, and the paths of which it says that they are calm
 pub record HistoryFacts : Type 0 where
   pub tree : View
   pub earlier : View
@@ -70,10 +71,14 @@ pub record HasMode (said : HistoryFacts) (dirty : List Route) (marks : Marks) (l
 abbrev pub IsCalmIn : Marks → FileSystem → Route → Type 0
 IsCalmIn marks s up = (name : List ℕ) (i : ℕ) → find s (name ∷ up) ≡ Some i → (marks.modes i ≡ None) ⊎ (starts_mount s i ≡ true)
 
--- a folder in which none does, and for which and another one no renaming waits
-pub record IsCalmFolder (marks : Marks) (log : CallLog) (up : Route) : Type 0 where
-  pub modes : IsCalmIn marks (current log) up
-  pub apart : IsUnjoined log up
+-- nor of what stands at this path, but where another mount begins
+abbrev pub HasCalmMode : Marks → FileSystem → Route → Type 0
+HasCalmMode marks s path = (i : ℕ) → find s path ≡ Some i → (marks.modes i ≡ None) ⊎ (starts_mount s i ≡ true)
+
+-- a path of which that is so, and whose name waits for no sync but its own folder's
+pub record IsCalmPath (marks : Marks) (log : CallLog) (path : Route) : Type 0 where
+  pub mode : HasCalmMode marks (current log) path
+  pub alone : WaitsAlone log path
 
 -- What is known, and kept by each call. The marks say what stood at each path before the work under way there.
 pub record IsKnown (said : HistoryFacts) (dirty : List Route) (marks : Marks) (log : CallLog) : Type 0 where
@@ -81,7 +86,7 @@ pub record IsKnown (said : HistoryFacts) (dirty : List Route) (marks : Marks) (l
   pub files : IsOfFiles log
   -- a mode that waits is of a dirty path
   pub moded : (i before : ℕ) → marks.modes i ≡ Some before → is_clean i log.changes ≡ false → HasMode said dirty marks log i before
-  pub calm : (p : Route) → said.calm p ≡ true → IsCalmFolder marks log p
+  pub calm : (p : Route) → said.calm p ≡ true → IsCalmPath marks log p
   -- a folder is never loose, and it roams only where it was renamed
   pub folders : (i : ℕ) → is_folder (node (current log) i) ≡ true → ((marks.roams i ≡ false) ⊎ WasRenamed log i) × (marks.loose i ≡ false)
   pub aside : (p : Route) → marks.aside p ≡ true → Among said.named p
@@ -187,10 +192,10 @@ module _ (said : HistoryFacts) (dirty : List Route) (marks : Marks) (log : CallL
       let h = known.moded i before (sym (ap (λ b. cond b (let o : Option ℕ = None in o) (marks.modes i)) unclean) ∙ is) unclean in
       record { path = h.path; leads = h.leads; out = ap (λ a. a && (way_waits log h.path || is_some (find (current log) h.path))) h.out; listed = h.listed; told = h.told; shown = h.shown }
 
-  calm_by : (p : Route) → said.calm p ≡ true → IsCalmFolder after log p
+  calm_by : (p : Route) → said.calm p ≡ true → IsCalmPath after log p
   calm_by p there =
       let calm = known.calm p there in
-      record { modes = λ name i at. elim (calm.modes name i at) [ inl none ↦ inl (still_none i none) | inr begins ↦ inr begins ]; apart = calm.apart }
+      record { mode = λ i at. elim (calm.mode i at) [ inl none ↦ inl (still_none i none) | inr begins ↦ inr begins ]; alone = calm.alone }
 
   firm_of : (i : ℕ) → (marks.loose i ≡ false) ⊎ (is_folder (node (current log) i) ≡ true) → marks.loose i ≡ false
   firm_of i (inl firm) = firm

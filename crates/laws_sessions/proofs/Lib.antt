@@ -15,11 +15,13 @@ pub mod CalmRuns
 pub mod CalmSteps
 pub mod Calmed
 pub mod Calming
+pub mod ChangedPaths
 pub mod Changing
 pub mod CopyExample
 pub mod CopyExampleSteps
 pub mod CopyLaws
 pub mod CopySteps
+pub mod CopyTouches
 pub mod Deleted
 pub mod DeletionSteps
 pub mod DirtyListed
@@ -167,6 +169,7 @@ pub mod Turns
 pub mod Unchanged
 pub mod Unnamed
 pub mod Untouched
+pub mod WaitsAlone
 pub mod WaitsFor
 pub mod WholeExample
 pub mod WholeImages

@@ -17,7 +17,7 @@ use Rattle.laws_crash.proofs.Guarding.{found_there}
 use Rattle.laws_sessions.proofs.Untouched.{IsAsFound}
 use Rattle.laws_sessions.proofs.Quiet.{kind_same}
 pub use Rattle.laws_sessions.proofs.KnownParts.{HasLink, link_settled}
-use Rattle.laws_sessions.proofs.Knowing.{IsCalmFolder, IsKept, IsKnown, HistoryFacts}
+use Rattle.laws_sessions.proofs.Knowing.{IsCalmPath, IsKept, IsKnown, HistoryFacts}
 use Rattle.laws_sessions.proofs.MakingParts.{MakesPart, made_known, marks_new, new_node, off_part, part_leads, part_node, with_part}
 use Rattle.laws_sessions.proofs.PlacingParts.{firm_known, marks_firm}
 use Rattle.laws_sessions.proofs.PlacingSteps.{IsWhole}
@@ -74,7 +74,7 @@ module _ (told : HistoryFacts) (dirty dirty_after : List Route) (marks : Marks) 
   bare : is_folder made ≡ false
   bare = ap folder_kind link
 
-  pub link_known : IsSureFolder log folder → IsSureFolder log up → ((p : Route) → own p ≡ true → IsCalmFolder marks log p) → Among dirty_after up → ((q : Route) → Among dirty q → Among dirty_after q) → IsKnown (with_part told folder own part) dirty_after marks_then after
+  pub link_known : IsSureFolder log folder → IsSureFolder log up → ((p : Route) → own p ≡ true → IsCalmPath marks log p) → Among dirty_after up → ((q : Route) → Among dirty q → Among dirty_after q) → IsKnown (with_part told folder own part) dirty_after marks_then after
   link_known around firm calm listed more =
       firm_known (with_part told folder own part) dirty_after (marks_new marks part n) after n link_clean new_mode
       (made_known told dirty dirty_after marks log kept.known name up f made kept.roams m bare new_mode folder own around firm calm listed more)

@@ -21,8 +21,7 @@ use Rattle.laws_crash.proofs.Making.{making_law}
 use Rattle.laws_crash.proofs.Tops.{under_made, none_below}
 use Rattle.job_reports.specs.Paths.{folder_of}
 use Rattle.laws_sessions.specs.Doubt.{way_waits}
-use Rattle.laws_sessions.proofs.Knowing.{HasMode, IsCalmFolder, IsKnown, RoamInTransit, HistoryFacts, nowhere}
-use Rattle.laws_sessions.proofs.Restless.{unjoined_within}
+use Rattle.laws_sessions.proofs.Knowing.{HasMode, IsCalmPath, IsKnown, RoamInTransit, HistoryFacts, nowhere}
 use Rattle.laws_sessions.proofs.Resting.{IsSureFolder}
 use Rattle.laws_sessions.proofs.Renaming.{in_one_folder, naming_known}
 use Rattle.laws_sessions.proofs.Changing.{seen_nowhere, none_below_file, folder_anchored, off_itself, said_one, some_none, some_is}
@@ -92,7 +91,7 @@ module _ (told : HistoryFacts) (dirty : List Route) (marks : Marks) (log : CallL
     });
     files = known.files;
     moded = λ i before is unclean. moded_apart i before (known.moded i before is unclean);
-    calm = λ p there. let calm = known.calm p there in record { modes = calm.modes; apart = calm.apart };
+    calm = λ p there. let calm = known.calm p there in record { mode = calm.mode; alone = calm.alone };
     folders = λ i is. let o = older i n (there_folder i is) in let k = known.folders i is in (elim k.0 [ inl stays ↦ inl (both_false _ _ o stays) | inr renamed ↦ inr renamed ], both_false _ _ o k.1);
     aside = λ p is. elim (either _ _ is) [ inl same ↦ inl (same_path-true p part same) | inr before ↦ inr (known.aside p before) ];
     left = λ p is there. elim (either _ _ is) [
@@ -125,7 +124,7 @@ pub record MakesPart (told : HistoryFacts) (log : CallLog) (name : List ℕ) (up
   pub free : lookup (current log).names f name ≡ None
   pub sure : way_waits log up ≡ false
 
--- what a history says once it was made, by a job whose item is in this folder, and that may change these folders
+-- what a history says once it was made, by a job whose item is in this folder, and whose own these paths are
 abbrev pub with_part : HistoryFacts → Route → (Route → Bool) → Route → HistoryFacts
 with_part told folder own part = record (naming_part told part) {
   part = Some part;
@@ -210,7 +209,7 @@ module _ (told : HistoryFacts) (dirty dirty_after : List Route) (marks : Marks) 
   nodes_more : length (current now).nodes ≡ count_after makes (new_node log)
   nodes_more = ap (λ (s : FileSystem). length s.nodes) (current_more log makes) ∙ count-after_change (current log) makes
 
-  pub made_known : (folder : Route) (own : Route → Bool) → IsSureFolder log folder → IsSureFolder log up → ((p : Route) → own p ≡ true → IsCalmFolder marks log p) → Among dirty_after up → ((q : Route) → Among dirty q → Among dirty_after q)
+  pub made_known : (folder : Route) (own : Route → Bool) → IsSureFolder log folder → IsSureFolder log up → ((p : Route) → own p ≡ true → IsCalmPath marks log p) → Among dirty_after up → ((q : Route) → Among dirty q → Among dirty_after q)
       → IsKnown (with_part told folder own part) dirty_after (marks_new marks part (new_node log)) now
   made_known folder own around firm calm listed more = naming_known (naming_part told part) (with_part told folder own part) dirty dirty_after (marks_new marks part (new_node log)) log makes up up part part f f marked (record {
     naming = naming;
@@ -234,8 +233,8 @@ module _ (told : HistoryFacts) (dirty dirty_after : List Route) (marks : Marks) 
       | inr before ↦ inl before
     ];
     modes = λ p h. h;
-    calm = λ p h. elim (either (own p) (told.calm p) h) [ inl here ↦ inr (let still = calm p here in record { modes = still.modes; apart = still.apart }) | inr before ↦ inl before ];
-    apart = λ p g h still at. unjoined_within g h makes refl;
+    calm = λ p h. elim (either (own p) (told.calm p) h) [ inl here ↦ inr (let still = calm p here in record { mode = still.mode; alone = still.alone }) | inr before ↦ inl before ];
+    apart = λ p still. inl refl;
     no_mode = λ p i at there. mode_of i (elim there [ inl before ↦ inl (sym (ap (find (current log)) (either_is p at)) ∙ before) | inr then ↦ inr (sym (ap (find (current now)) (either_is p at)) ∙ then) ]);
     touched = λ n p at. or_right _ _ (subst (λ q. same_path q part ≡ true) (sym (either_is p at)) (same_path-self part));
     named = marked.aside;

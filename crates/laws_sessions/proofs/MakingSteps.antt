@@ -39,18 +39,20 @@ use Rattle.make_job.specs.NewThings.{making_call}
 use Rattle.copy_move.specs.Jobs.{course_after}
 use Rattle.copy_move.specs.Settling.{with_change as moves_dirty}
 use Rattle.laws_sessions.specs.Replayed.{made_by}
+use Rattle.laws_sessions.specs.Doubt.{name_waits}
 use Rattle.laws_sessions.proofs.OwnFolders.{may_change}
 use Rattle.laws_sessions.proofs.Calming.{refused_is, still_listed}
 use Rattle.laws_sessions.proofs.Changing.{seen_nowhere}
 use Rattle.laws_sessions.proofs.Deleted.{comes_refused, either, put_at, put_off}
 use Rattle.laws_sessions.proofs.DeletionSteps.{Steps, ends, joined_holds, joined_more, same_dirty, tried}
 use Rattle.job_unsynced.specs.Folders.{joined_folders}
-use Rattle.laws_sessions.proofs.JobKnows.{HasName, IsUntouched, KnowsAfter, NoneOver, WorkKnows, calm_in, none_waits, over_it, untouched_free, way_sure}
-use Rattle.laws_sessions.proofs.Knowing.{IsCalmFolder, IsKept, IsKnown, HistoryFacts, nowhere, settled_marks}
+use Rattle.laws_sessions.proofs.JobKnows.{HasName, IsUntouched, KnowsAfter, NoneOver, WorkKnows, none_waits, over_it, untouched_free, way_sure}
+use Rattle.laws_sessions.proofs.Knowing.{IsCalmPath, IsKept, IsKnown, HistoryFacts, nowhere, settled_marks}
 use Rattle.laws_sessions.proofs.MakingThings.{marks_born, new_node, thing_made_known}
 use Rattle.laws_sessions.proofs.Resting.{IsSureFolder, folder_at_of, sure_path}
 use Rattle.laws_sessions.proofs.Sources.{folder_is, item_in, making_changed, making_item}
 use Rattle.laws_sessions.proofs.Stepped.{StepRan, comes_one, said_after}
+use Rattle.laws_sessions.proofs.WaitsAlone.{alone_calm}
 
 -- what a new thing is
 abbrev node_of : NewThing → Node
@@ -77,7 +79,7 @@ no_write (thing.Link text) path s left = refl
 
 -- a thing is made
 module _ (told : HistoryFacts) (dirty dirty_after : List Route) (marks : Marks) (log now : CallLog) (name : List ℕ) (up : Route) (new : NewThing) (work : Work) (kept : IsKept told dirty marks log) (none : told.part ≡ None)
-    (owed : NoneOver (current log) up dirty) (within : folder_changed (item_in work) ≡ up) (own : (p : Route) → may_change (item_in work) p ≡ true → p ≡ up) (said_made : made_by (Some (item_in work)) (name ∷ up) told.tree ≡ value (node_of new)) (listed : Among dirty_after up) (more : (q : Route) → Among dirty q → Among dirty_after q)
+    (owed : NoneOver (current log) up dirty) (within : folder_changed (item_in work) ≡ up) (own : (p : Route) → may_change (item_in work) p ≡ true → p ≡ name ∷ up) (said_made : made_by (Some (item_in work)) (name ∷ up) told.tree ≡ value (node_of new)) (listed : Among dirty_after up) (more : (q : Route) → Among dirty q → Among dirty_after q)
     (done : Performs {A = Unit {0}} log (making_call new (name ∷ up)) (Ok tt) (Some now)) where
   abbrev made_path : Route
   made_path = name ∷ up
@@ -100,14 +102,18 @@ module _ (told : HistoryFacts) (dirty dirty_after : List Route) (marks : Marks) 
     sure = way_sure told dirty marks log up kept.known owed;
   }
 
-  calm : (p : Route) → may_change (item_in work) p ≡ true → IsCalmFolder marks log p
-  calm p here = subst (IsCalmFolder marks log) (sym (own p here)) (calm_in told dirty marks log kept up (over_it (current log) up dirty owed))
-
   was_free : find (current log) made_path ≡ None
   was_free = ap (option_and_then (λ g. lookup (current log).names g name)) passes.folder ∙ passes.none
 
+  nameless : name_waits log made_path ≡ false
+  nameless = none_waits told dirty marks log up kept.known (over_it (current log) up dirty owed) name
+
+  calm : (p : Route) → may_change (item_in work) p ≡ true → IsCalmPath marks log p
+  calm p here = subst (IsCalmPath marks log) (sym (own p here))
+      (record { mode = λ i at. absurd (let e : (let o : Option ℕ = None in o) ≡ Some i = sym was_free ∙ at in let f : ⊥ = cc in f); alone = alone_calm log made_path nameless })
+
   untouched : IsUntouched marks (current log) made_path
-  untouched = untouched_free told dirty marks log made_path kept (sure_path log made_path firm.sure (none_waits told dirty marks log up kept.known (over_it (current log) up dirty owed) name)) was_free
+  untouched = untouched_free told dirty marks log made_path kept (sure_path log made_path firm.sure nameless) was_free
 
   no_part : (p : Route) → told.part ≡ Some p → ⊥
   no_part p is = let e : (let o : Option Route = None in o) ≡ Some p = sym none ∙ is in cc
@@ -165,7 +171,7 @@ module _ (told : HistoryFacts) (dirty dirty_after : List Route) (marks : Marks) 
   made_at w new name none new_is owed routes done =
       let up = folder_of w.path in
       subst (λ q. StepRan told (said_after now (Made q) (Make w) told) dirty_after log now (KnowsAfter (Made q) (said_after now (Made q) (Make w) told) dirty_after now GoesOn (Make new))) (sym name.is)
-      (thing_is_made told dirty dirty_after marks log now name.name up w.thing (Make w) kept none owed (folder_is (Make w)) (λ p own. same_path-true p (folder_of w.path) (making_changed w.thing w.path p own)) (shown_as w.thing w.path (name.name ∷ up) told.tree)
+      (thing_is_made told dirty dirty_after marks log now name.name up w.thing (Make w) kept none owed (folder_is (Make w)) (λ p own. same_path-true p w.path (making_changed w.thing w.path p own) ∙ name.is) (shown_as w.thing w.path (name.name ∷ up) told.tree)
       (subst (λ xs. Among xs up) (sym routes) (joined_holds up dirty)) (λ q among. subst (λ xs. Among xs q) (sym routes) (joined_more up q dirty among))
       (subst (λ q. Performs {A = Unit {0}} log (making_call w.thing q) (Ok tt) (Some now)) name.is done)
       (KnowsAfter (Made (name.name ∷ up)) (said_after now (Made (name.name ∷ up)) (Make w) told) dirty_after now GoesOn (Make new))

@@ -25,11 +25,12 @@ use Rattle.laws_crash.proofs.Tops.{under_made, none_below}
 use Rattle.laws_sessions.specs.Doubt.{is_pending, way_waits, name_waits, is_joint}
 use Rattle.laws_sessions.proofs.Pending.{pending_less}
 use Rattle.laws_sessions.proofs.InTransit.{WasRenamed}
-use Rattle.laws_sessions.proofs.Knowing.{HasMode, HasNoMode, IsCalmFolder, IsCalmIn, IsKnown, IsUnreached, RoamInTransit, HistoryFacts, held}
+use Rattle.laws_sessions.proofs.Knowing.{HasCalmMode, HasMode, HasNoMode, IsCalmPath, IsKnown, IsUnreached, RoamInTransit, HistoryFacts, held}
 use Rattle.laws_sessions.proofs.Quiet.{held_same, kind_same, mounts_same, shows_same, starts_same, unclean_before, was_bare}
-use Rattle.laws_sessions.proofs.Resting.{IsBeside, IsSureFolder, folder_at_of, joint_still, restless_folder, stands_at, sure_still, unborn_more, unjoined_still}
-use Rattle.laws_sessions.proofs.Restless.{IsUnjoined, is_restless, restless_less}
+use Rattle.laws_sessions.proofs.Resting.{IsBeside, IsSureFolder, folder_at_of, joint_still, restless_folder, stands_at, sure_still, unborn_more}
+use Rattle.laws_sessions.proofs.Restless.{is_restless, restless_less}
 use Rattle.laws_sessions.proofs.RoamingFolders.{roaming_still}
+use Rattle.laws_sessions.proofs.WaitsAlone.{WaitsAlone, alone_still}
 use Rattle.laws_sessions.proofs.WaitsFor.{names_said}
 use Rattle.laws_sessions.proofs.Changing.{folder_anchored, off_itself, said_one, some_none, some_is}
 use Rattle.laws_sessions.proofs.Since.{clean_since, pending_all, pending_since, renamed_since}
@@ -71,7 +72,7 @@ module _ (told : HistoryFacts) (dirty : List Route) (marks : Marks) (log : CallL
     });
     files = known.files;
     moded = λ i before is unclean. let h = known.moded i before is unclean in record { path = h.path; leads = h.leads; out = h.out; listed = h.listed; told = h.told; shown = h.shown };
-    calm = λ p there. let calm = known.calm p there in record { modes = calm.modes; apart = calm.apart };
+    calm = λ p there. let calm = known.calm p there in record { mode = calm.mode; alone = calm.alone };
     folders = λ i is. let k = known.folders i is in (elim k.0 [ inl stays ↦ inl (low _ _ stays) | inr renamed ↦ inr renamed ], low _ _ k.1);
     aside = known.aside;
     left = known.left;
@@ -105,7 +106,7 @@ pub record MakesThing (told after : HistoryFacts) (marks : Marks) (log : CallLog
   pub spared : (n : ℕ) (p : Route) → after.written n p ≡ false → (told.written n p ≡ false) × (same_path p (name ∷ up) ≡ false)
   pub folders : (p : Route) → after.folders p ≡ true → (told.folders p ≡ true) ⊎ (p ≡ up)
   pub modes : (p : Route) → told.modes p ≡ true → after.modes p ≡ true
-  pub calm : (p : Route) → after.calm p ≡ true → (told.calm p ≡ true) ⊎ IsCalmFolder marks log p
+  pub calm : (p : Route) → after.calm p ≡ true → (told.calm p ≡ true) ⊎ IsCalmPath marks log p
   pub new_mode : marks.modes (length (current log).nodes) ≡ None
 
 module _ (told after : HistoryFacts) (dirty dirty_after : List Route) (marks : Marks) (log : CallLog) (was_known : IsKnown told dirty marks log) (in_transit : RoamInTransit marks log) (name : List ℕ) (up : Route) (f : ℕ) (made : Node)
@@ -328,13 +329,13 @@ module _ (told after : HistoryFacts) (dirty dirty_after : List Route) (marks : M
         shown = ap (λ (s : Spot). s.value) (m.off h.path off).1 ∙ (h.shown ∙ ap (λ n. Some (value (with_mode before n))) (sym (unaltered i (known.guarded.there h.path i (found_at log h.path (Some i) h.leads)))));
       }
 
-  calm_was : (p : Route) → IsCalmIn marks (current log) p → IsUnjoined log p → IsCalmFolder marked now p
-  calm_was p modes apart = record {
-    modes = λ k i there. elim (where_is (k ∷ p)) [
+  calm_was : (p : Route) → HasCalmMode marks (current log) p → WaitsAlone log p → IsCalmPath marked now p
+  calm_was p mode alone = record {
+    mode = λ i there. elim (where_is p) [
       | inl here ↦ inl (subst (λ j. marks.modes j ≡ None) (sym (some_is new i (sym path_leads ∙ (ap (find (current now)) (sym here) ∙ there)))) m.new_mode)
-      | inr off ↦ elim (modes k i (sym (off_path (k ∷ p) off) ∙ there)) [ inl none ↦ inl none | inr begins ↦ inr (starts_same log makes i ∙ begins) ]
+      | inr off ↦ elim (mode i (sym (off_path p off) ∙ there)) [ inl none ↦ inl none | inr begins ↦ inr (starts_same log makes i ∙ begins) ]
     ];
-    apart = unjoined_still log makes known.guarded.tree known.files refl (starts_same log makes) as_before was_at p apart;
+    alone = alone_still log makes known.files was_at refl p alone;
   }
 
   no_mount : starts_mount (current now) new ≡ false
@@ -388,7 +389,7 @@ module _ (told after : HistoryFacts) (dirty dirty_after : List Route) (marks : M
       unborn = unborn_more log makes (λ i past. naming.bytes i) naming.count known.files.unborn;
     };
     moded = λ i before is unclean. moded_still i before (known.moded i before is (unclean_before log makes i refl unclean));
-    calm = λ p there. elim (m.calm p there) [ inl before ↦ (let calm = was_known.calm p before in calm_was p calm.modes calm.apart) | inr calm ↦ calm_was p calm.modes calm.apart ];
+    calm = λ p there. elim (m.calm p there) [ inl before ↦ (let calm = was_known.calm p before in calm_was p calm.mode calm.alone) | inr calm ↦ calm_was p calm.mode calm.alone ];
     folders = folder_marks;
     aside = m.named;
     left = λ p is there.

@@ -111,8 +111,8 @@ module _ (told : HistoryFacts) (dirty dirty_after : List Route) (marks : Marks) 
     modes = or_right _ _ (same_path-self s.path);
     modes_more = λ p waits. or_left _ _ waits;
     calm = λ p calm. (
-      kept.known.calm p (and_first (told.calm p) (not (same_path p (folder_of s.path))) calm),
-      λ same. both_ways _ (both_hold (told.calm p) (same_path p (folder_of s.path)) calm) (subst (λ q. same_path q (folder_of s.path) ≡ true) (sym same) (same_path-self (folder_of s.path))),
+      kept.known.calm p (and_first (told.calm p) (not (same_path p s.path)) calm),
+      λ same. both_ways _ (both_hold (told.calm p) (same_path p s.path) calm) (subst (λ q. same_path q s.path ≡ true) (sym same) (same_path-self s.path)),
     );
   }
 

@@ -50,7 +50,7 @@ said_thing_moved told old source_folder new target_folder = record {
   written = λ n p. told.written n p || is_of_move (pair_of (old ∷ source_folder) (new ∷ target_folder)) p;
   folders = λ p. (told.folders p && not (is_of_move (pair_of (old ∷ source_folder) (new ∷ target_folder)) p)) || (same_path p source_folder || same_path p target_folder);
   modes = told.modes;
-  calm = λ p. told.calm p && not (is_of_move (pair_of (old ∷ source_folder) (new ∷ target_folder)) p || (same_path p source_folder || same_path p target_folder));
+  calm = λ p. told.calm p && not (is_of_move (pair_of (old ∷ source_folder) (new ∷ target_folder)) p);
 }
 
 -- A thing may be moved, to where nothing stands, or if it is no folder, over another such thing.

@@ -21,16 +21,17 @@ use Rattle.laws_sessions.specs.Doubt.{is_joint, is_pending, joins, name_waits, w
 use Rattle.laws_sessions.proofs.AtRest.{RestsBelow}
 use Rattle.laws_sessions.proofs.Changing.{folder_stays, off_itself}
 use Rattle.laws_sessions.proofs.InTransit.{WasRenamed, now_renamed, still_renamed}
-use Rattle.laws_sessions.proofs.Knowing.{IsCalmFolder, IsKept, IsKnown, IsUnreached, HistoryFacts}
+use Rattle.laws_sessions.proofs.Knowing.{IsCalmPath, IsKept, IsKnown, IsUnreached, HistoryFacts}
 use Rattle.laws_sessions.proofs.MovableThings.{CanMoveThing, marks_moving, pair_of, said_thing_moved}
 use Rattle.laws_sessions.proofs.MovableThings.{source_above, source_holds, target_above, thing}
 use Rattle.laws_sessions.proofs.MovedTree.{MovesThing, lands, mount_off, mounts, names, names_at, nodes, off, source_folder_off, source_name, source_stands, target_folder_off, target_stands, tree_now, where_is, where_was}
-use Rattle.laws_sessions.proofs.PathsBelow.{is_below, off_above}
+use Rattle.laws_sessions.proofs.PathsBelow.{is_below, not_below, off_above}
 use Rattle.laws_sessions.proofs.Pending.{pending_less}
 use Rattle.laws_sessions.proofs.Quiet.{was_bare}
 use Rattle.laws_sessions.proofs.Resting.{IsBeside, IsOfFiles, IsSureFolder, folder_at_of, joint_folder, name_sure, restless_folder, stands_at, unborn_more}
 use Rattle.laws_sessions.proofs.Restless.{is_restless, joint_less, joint_swap, named_both, names_in, others, restless_less}
 use Rattle.laws_sessions.proofs.Since.{pending_all, pending_since, renamed_since}
+use Rattle.laws_sessions.proofs.WaitsAlone.{WaitsAlone, alone_at}
 
 -- what stands in a folder that lies off a path, and isn't its folder, lies off it
 off_within : (top : List ℕ) (folder : Route) (name : List ℕ) (p : Route) → is_prefix (top ∷ folder) p ≡ false → same_path p folder ≡ false → is_prefix (top ∷ folder) (name ∷ p) ≡ false
@@ -154,26 +155,35 @@ module _ (told : HistoryFacts) (dirty : List Route) (marks : Marks) (log : CallL
     unborn = unborn_more log moves (λ k past. refl) (let e = ap (λ (s : FileSystem). length s.nodes) (current_more log moves) in omega (arith, e)) known.files.unborn;
   }
 
-  -- A folder that is calm then is neither of the two, nor of the move.
-  pub calm_then : (p : Route) → after.calm p ≡ true → IsCalmFolder moving now p
+  -- A call changes the two names alone.
+  path_of_two : (k : ℕ) (name : List ℕ) (q : Route) → find (current now) q ≡ Some k → is_some (says moves 0 k name) ≡ true → ((name ∷ q) ≡ source) ⊎ ((name ∷ q) ≡ target)
+  path_of_two k name q at s = elim (names_at log old source_folder new target_folder f g i r lies 0 k name s) [
+    | inl e ↦ inl (ap (λ (p : Route). name ∷ p) (find-once (current now) tree_after q source_folder k at (from_now ∙ ap (λ n. Some n) (sym e.0))) ∙ e.1)
+    | inr e ↦ inr (ap (λ (p : Route). name ∷ p) (find-once (current now) tree_after q target_folder k at (to_now ∙ ap (λ n. Some n) (sym e.0))) ∙ e.1)
+  ]
+
+  -- so another name waits for the sync of its own folder alone where it did
+  alone_off : (p : Route) → is_prefix source p ≡ false → is_prefix target p ≡ false → WaitsAlone log p → WaitsAlone now p
+  alone_off [] of_source of_target alone = tt
+  alone_off (name ∷ q) of_source of_target alone =
+      alone_at log moves known.files name q (λ k folder at. sym (off_both q (off_above source name q of_source) (off_above target name q of_target)) ∙ at)
+      (λ k at. inr (false_from_ne_true _ (λ s. elim (path_of_two k name q at s) [
+        | inl e ↦ not_below source (name ∷ q) [] of_source e
+        | inr e ↦ not_below target (name ∷ q) [] of_target e
+      ]))) alone
+
+  -- A path that is calm then isn't of the move.
+  pub calm_then : (p : Route) → after.calm p ≡ true → IsCalmPath moving now p
   calm_then p there =
-      let both = and_parts (told.calm p) (not (is_of_move pair p || (same_path p source_folder || same_path p target_folder))) there in
-      let apart = or_parts (is_of_move pair p) (same_path p source_folder || same_path p target_folder) (not-true _ both.1) in
-      let away = or_parts (is_prefix source p) (is_prefix target p) apart.0 in
-      let other = or_parts (same_path p source_folder) (same_path p target_folder) apart.1 in
+      let both = and_parts (told.calm p) (not (is_of_move pair p)) there in
+      let away = or_parts (is_prefix source p) (is_prefix target p) (not-true _ both.1) in
       let calm = known.calm p both.0 in
       record {
-        modes = λ name j at. elim (calm.modes name j (sym (off_both (name ∷ p) (off_within old source_folder name p away.0 other.0) (off_within new target_folder name p away.1 other.1)) ∙ at)) [
+        mode = λ j at. elim (calm.mode j (sym (off_both p away.0 away.1) ∙ at)) [
           | inl none ↦ inl none
           | inr begins ↦ inr (mounts log old source_folder new target_folder f g i r lies j ∙ begins)
         ];
-        apart = λ a b at. false_from_ne_true _ (λ joint. elim (joint_less a b log.changes moves joint) [
-          | inl before ↦ both_ways _ (calm.apart a b (sym (off_both p away.0 away.1) ∙ at)) before
-          | inr joined ↦ elim (either_named a (named_both a b moves joined).0) [
-            | inl e ↦ off_itself p source_folder (find-once (current now) tree_after p source_folder a at (from_now ∙ ap (λ k. Some k) (sym e))) other.0
-            | inr e ↦ off_itself p target_folder (find-once (current now) tree_after p target_folder a at (to_now ∙ ap (λ k. Some k) (sym e))) other.1
-          ]
-        ]);
+        alone = alone_off p away.0 away.1 calm.alone;
       }
 
   -- Of two folders for which a renaming waits each stands on the mount of the other.
@@ -231,13 +241,6 @@ module _ (told : HistoryFacts) (dirty : List Route) (marks : Marks) (log : CallL
       | inl e ↦ inl (source_folder, listed, from_now ∙ ap (λ n. Some n) (sym e))
       | inr e ↦ inl (target_folder, listed_beside, to_now ∙ ap (λ n. Some n) (sym e))
     ]
-  ]
-
-  -- A name that waits did so before, or it is one of the two.
-  path_of_two : (k : ℕ) (name : List ℕ) (q : Route) → find (current now) q ≡ Some k → is_some (says moves 0 k name) ≡ true → ((name ∷ q) ≡ source) ⊎ ((name ∷ q) ≡ target)
-  path_of_two k name q at s = elim (names_at log old source_folder new target_folder f g i r lies 0 k name s) [
-    | inl e ↦ inl (ap (λ (p : Route). name ∷ p) (find-once (current now) tree_after q source_folder k at (from_now ∙ ap (λ n. Some n) (sym e.0))) ∙ e.1)
-    | inr e ↦ inr (ap (λ (p : Route). name ∷ p) (find-once (current now) tree_after q target_folder k at (to_now ∙ ap (λ n. Some n) (sym e.0))) ∙ e.1)
   ]
 
   is_doubted : (n : ℕ) (p : Route) → (p ≡ source) ⊎ (p ≡ target) → after.doubt n p ≡ true

@@ -15,17 +15,17 @@ use Rattle.tree_trait.proofs.Kept.{folder_there}
 use Rattle.laws_crash.proofs.Guarding.{find_same, same_quiet}
 use Rattle.laws_crash.proofs.Tops.{none_below, under_made, under_moved, under_removed}
 use Rattle.job_reports.proofs.PermittedCalls.{IsMaking}
-use Rattle.laws_sessions.specs.Doubt.{is_pending, name_waits, is_joint}
+use Rattle.laws_sessions.specs.Doubt.{is_pending, name_waits}
 use Rattle.laws_sessions.proofs.Changing.{said_one, said_two}
 use Rattle.laws_sessions.proofs.Pending.{is_within, pending_less, quiet_within}
-use Rattle.laws_sessions.proofs.Resting.{IsOfFiles, bare_unjoined}
-use Rattle.laws_sessions.proofs.Restless.{IsUnjoined, joint_before}
-use Rattle.laws_sessions.proofs.WaitsFor.{pending_synced}
+use Rattle.laws_sessions.proofs.NameWaits.{waits_after, waits_calm}
+use Rattle.laws_sessions.proofs.Resting.{IsOfFiles}
+use Rattle.laws_sessions.proofs.WaitsAlone.{WaitsAlone, within_gone}
 use Rattle.laws_sessions.proofs.CalmChanges.{below_made, below_target, gone_moved, gone_removed, leads, none_some, other_folder, some_same, target_leads}
 
--- a change of the name waits only where something holds, and no renaming does for its folder and another one
+-- a change of the name waits only where something holds, and for the sync of its own folder alone
 abbrev pub WaitsIf : List ℕ → Route → CallLog → Type 0 → Type 0
-WaitsIf name up log E = (name_waits log (name ∷ up) ≡ true → E) × IsUnjoined log up
+WaitsIf name up log E = (name_waits log (name ∷ up) ≡ true → E) × WaitsAlone log (name ∷ up)
 
 module _ (name : List ℕ) (up : Route) where
   -- it waits in the folder that stands there
@@ -47,14 +47,15 @@ module _ (name : List ℕ) (up : Route) where
     now = with_change log c
 
     -- by the folder that stands there then
-    pub waits_by : is_within c ≡ true → ((f : ℕ) → find (current now) up ≡ Some f → (find (current log) up ≡ Some f) ⊎ (((g : ℕ) → is_joint f g log.changes ≡ false) × (is_pending f name now.changes ≡ true → F)))
+    pub waits_by : is_within c ≡ true → ((f : ℕ) → find (current now) up ≡ Some f → (find (current log) up ≡ Some f) ⊎ ((is_pending f name log.changes ≡ false) × (is_pending f name now.changes ≡ true → F)))
         → ((f : ℕ) → find (current log) up ≡ Some f → is_some (says c 0 f name) ≡ true → F) → (E → F) → WaitsIf name up now F
-    waits_by one stands said f = (λ waits. by (waits_at now waits), apart)
+    waits_by one stands said f = (λ waits. by (waits_at now waits), alone)
       where
-        apart : IsUnjoined now up
-        apart i g at = false_from_ne_true _ (λ joint.
-            let before = joint_before i g log.changes c one joint in
-            elim (stands i at) [ inl same ↦ both_ways _ (h.1 i g same) before | inr other ↦ both_ways _ (other.0 g) before ])
+        alone : WaitsAlone now (name ∷ up)
+        alone i at = elim (stands i at) [
+          | inl same ↦ waits_after i name log c (i ∷ []) (within_gone i name c one) (h.1 i same)
+          | inr other ↦ waits_after i name log c (i ∷ []) (within_gone i name c one) (waits_calm i name log other.0)
+        ]
 
         by : (g : ℕ) × (find (current now) up ≡ Some g) × (is_pending g name now.changes ≡ true) → F
         by (g, at, pending) = elim (stands g at) [
@@ -75,7 +76,7 @@ module _ (name : List ℕ) (up : Route) where
         | inl old ↦ elim (f (h.0 (it_waits log i here old))) [
           | inl same ↦
               let is : i ≡ g = (let e : Some i ≡ Some g = sym here ∙ (ap (find (current log)) same ∙ at_q) in cc) in
-              absurd (both_ways _ (pending_synced g name log.changes (λ k. h.1 g k (here ∙ ap (λ j. Some j) is))) (subst (λ j. is_pending j name (with_change log (Syncs g)).changes ≡ true) is pending))
+              absurd (both_ways _ (h.1 g (here ∙ ap (λ j. Some j) is)) (subst (λ j. is_pending j name (with_change log (Syncs g)).changes ≡ true) is pending))
           | inr other ↦ other
         ]
         | inr said ↦ absurd (false≢true said)
@@ -105,16 +106,16 @@ module _ (name : List ℕ) (up : Route) where
       ]
 
       by_rest : (rest : Route) (g : ℕ) → up ≡ rest ++ k ∷ q → find (current (with_change log (Makes (found_node (current log) q) k made))) up ≡ Some g
-          → ((h : ℕ) → is_joint g h log.changes ≡ false) × (is_pending g name (with_change log (Makes (found_node (current log) q) k made)).changes ≡ true → F)
+          → (is_pending g name log.changes ≡ false) × (is_pending g name (with_change log (Makes (found_node (current log) q) k made)).changes ≡ true → F)
       by_rest [] g is at =
           let same : g ≡ length (current log).nodes = some_same (length (current log).nodes) g (sym (leads log tree k q made making) ∙ (ap (find (current (with_change log (Makes (found_node (current log) q) k made)))) (sym is) ∙ at)) in (
-            λ h. subst (λ j. is_joint j h log.changes ≡ false) (sym same) (bare_unjoined log tree files (length (current log).nodes) h bare),
+            subst (λ j. is_pending j name log.changes ≡ false) (sym same) (files.bare (length (current log).nodes) name bare),
             λ pending. none_new (subst (λ j. is_pending j name (with_change log (Makes (found_node (current log) q) k made)).changes ≡ true) same pending),
           )
       by_rest (first ∷ rest) g is at = none_some g _ (ap (find (current (with_change log (Makes (found_node (current log) q) k made)))) is ∙ below_made log tree k q made making first rest) at
 
       stands : (g : ℕ) → find (current (with_change log (Makes (found_node (current log) q) k made))) up ≡ Some g
-          → (find (current log) up ≡ Some g) ⊎ (((h : ℕ) → is_joint g h log.changes ≡ false) × (is_pending g name (with_change log (Makes (found_node (current log) q) k made)).changes ≡ true → F))
+          → (find (current log) up ≡ Some g) ⊎ ((is_pending g name log.changes ≡ false) × (is_pending g name (with_change log (Makes (found_node (current log) q) k made)).changes ≡ true → F))
       stands g at = elim (find_same log (Makes (found_node (current log) q) k made) up) [
         | inl same ↦ inl (sym same ∙ at)
         | inr under ↦ let u = under_made log tree q (found_node (current log) q) making.folder k made up under in inr (by_rest u.0 g u.1 at)
@@ -127,7 +128,7 @@ module _ (name : List ℕ) (up : Route) where
 
   -- A part goes to a free name beside it, or it is removed: their names wait in that folder.
   module _ (log : CallLog) (tree : IsTree (current log)) (q : Route) (g : ℕ) (at_q : find (current log) q ≡ Some g) (part : List ℕ) (i : ℕ) (part_leads : lookup (current log).names g part ≡ Some i)
-      (file : is_folder (node (current log) i) ≡ false) (bare : is_pending i name log.changes ≡ false) (alone : (h : ℕ) → is_joint i h log.changes ≡ false) (E F : Type 0) (here : up ≡ q → F) (f : E → F) (h : WaitsIf name up log E) where
+      (file : is_folder (node (current log) i) ≡ false) (bare : is_pending i name log.changes ≡ false) (E F : Type 0) (here : up ≡ q → F) (f : E → F) (h : WaitsIf name up log E) where
     in_folder : (j : ℕ) → find (current log) up ≡ Some j → g ≡ j → F
     in_folder j at same = here (find-once (current log) tree up q j at (at_q ∙ ap (λ k. Some k) same))
 
@@ -135,7 +136,7 @@ module _ (name : List ℕ) (up : Route) where
     waits_removed = waits_by log (Removes g part i) E F h refl stands (λ j at says_so. in_folder j at (same_name-true g j part name (said_one _ None says_so)).0) f
       where
         stands : (j : ℕ) → find (current (with_change log (Removes g part i))) up ≡ Some j
-            → (find (current log) up ≡ Some j) ⊎ (((h : ℕ) → is_joint j h log.changes ≡ false) × (is_pending j name (with_change log (Removes g part i)).changes ≡ true → F))
+            → (find (current log) up ≡ Some j) ⊎ ((is_pending j name log.changes ≡ false) × (is_pending j name (with_change log (Removes g part i)).changes ≡ true → F))
         stands j at = elim (find_same log (Removes g part i) up) [
           | inl same ↦ inl (sym same ∙ at)
           | inr under ↦
@@ -157,16 +158,16 @@ module _ (name : List ℕ) (up : Route) where
         ]
       ]
 
-      by_rest : (rest : Route) (j : ℕ) → up ≡ rest ++ target ∷ q → find (current then) up ≡ Some j → ((h : ℕ) → is_joint j h log.changes ≡ false) × (is_pending j name then.changes ≡ true → F)
+      by_rest : (rest : Route) (j : ℕ) → up ≡ rest ++ target ∷ q → find (current then) up ≡ Some j → (is_pending j name log.changes ≡ false) × (is_pending j name then.changes ≡ true → F)
       by_rest [] j is at =
           let same : j ≡ i = some_same i j (sym (target_leads log tree q g at_q part i part_leads file target replaced apart) ∙ (ap (find (current then)) (sym is) ∙ at)) in
-          (λ h. subst (λ k. is_joint k h log.changes ≡ false) (sym same) (alone h), λ pending. none_in (subst (λ k. is_pending k name then.changes ≡ true) same pending))
+          (subst (λ k. is_pending k name log.changes ≡ false) (sym same) bare, λ pending. none_in (subst (λ k. is_pending k name then.changes ≡ true) same pending))
       by_rest (first ∷ rest) j is at = none_some j _ (ap (find (current then)) is ∙ below_target log tree q g at_q part i part_leads file target replaced apart first rest) at
 
       pub waits_placed : WaitsIf name up then F
       waits_placed = waits_by log (Moves g part g target i replaced) E F h (eq-eqb g g refl) stands said f
         where
-          stands : (j : ℕ) → find (current then) up ≡ Some j → (find (current log) up ≡ Some j) ⊎ (((h : ℕ) → is_joint j h log.changes ≡ false) × (is_pending j name then.changes ≡ true → F))
+          stands : (j : ℕ) → find (current then) up ≡ Some j → (find (current log) up ≡ Some j) ⊎ ((is_pending j name log.changes ≡ false) × (is_pending j name then.changes ≡ true → F))
           stands j at = elim (find_same log (Moves g part g target i replaced) up) [
             | inl same ↦ inl (sym same ∙ at)
             | inr under ↦ elim (under_moved log tree q g at_q part target i replaced up under) [

@@ -9,7 +9,7 @@ use Rattle.tree_trait.specs.Change.{Makes, CallLog, change_of, current, found_no
 use Rattle.tree_trait.specs.FileSystem.{node}
 use Rattle.tree_trait.specs.Refusals.{refusal_of}
 use Rattle.tree_trait.specs.Shape.{IsTree}
-use Rattle.laws_sessions.specs.Doubt.{is_pending, is_joint}
+use Rattle.laws_sessions.specs.Doubt.{is_pending}
 use Rattle.job_reports.specs.CallRuns.{AllDone}
 use Rattle.job_reports.specs.Paths.{folder_of}
 use Rattle.job_reports.specs.declared.report.Cause.{Cause}
@@ -32,7 +32,7 @@ use Rattle.copy_link.specs.declared.stage.Stage.TheVariants as link_stage
 use Rattle.copy_folders.specs.FolderCopying.{is_dirty}
 use Rattle.copy_folders.specs.Levels.{Levels, dirtied_levels}
 use Rattle.laws_sessions.proofs.FileMoves.{MoveCalls, MoveStops}
-use Rattle.laws_sessions.proofs.Resting.{IsOfFiles, bare_unjoined}
+use Rattle.laws_sessions.proofs.Resting.{IsOfFiles}
 use Rattle.laws_sessions.proofs.AtWork.{HasItem}
 use Rattle.laws_sessions.proofs.CalmChanges.{some_same}
 use Rattle.laws_sessions.proofs.ItemLinks.{no_row}
@@ -60,7 +60,6 @@ module _ (name : List ℕ) (up : Route) (log now : CallLog) (files : IsOfFiles l
     item = item;
     waits = h;
     bare = λ i at. (let w = item.work in subst (λ j. is_pending j name log.changes ≡ false) (sym (some_same w.i i (sym w.leads ∙ at))) (files.bare w.i name w.file));
-    apart = λ i g at. (let w = item.work in subst (λ j. is_joint j g log.changes ≡ false) (sym (some_same w.i i (sym w.leads ∙ at))) (bare_unjoined log tree files w.i g w.file));
   }
 
   -- a file

@@ -21,9 +21,8 @@ use Rattle.job_reports.proofs.PermittedCalls.{sync_finds}
 use Rattle.copy_file.specs.CopyCalls.{part_mode, placing}
 use Rattle.copy_folders.specs.Levels.{Levels, coming, passed_levels}
 use Rattle.laws_sessions.specs.Doubt.{is_pending}
-use Rattle.laws_sessions.proofs.Pending.{pending_less, quiet_within}
-use Rattle.laws_sessions.proofs.Resting.{IsOfFiles, bare_unjoined, unjoined_at}
-use Rattle.laws_sessions.proofs.Restless.{IsUnjoined}
+use Rattle.laws_sessions.proofs.Pending.{pending_less}
+use Rattle.laws_sessions.proofs.Resting.{IsOfFiles}
 use Rattle.laws_sessions.proofs.AtWork.{HasItem, IsAtWork}
 use Rattle.laws_sessions.proofs.NameChanges.{WaitsIf, waits_placed, waits_quiet, waits_removed, waits_synced}
 use Rattle.laws_sessions.proofs.QuietRuns.{part_stops, row_done, row_stops, tree_moded, tree_synced}
@@ -60,7 +59,6 @@ module _ (name : List ℕ) (up : Route) (item_name : List ℕ) (l : Levels) (par
     pub item : HasItem log item_name l part target
     pub waits : WaitsIf name up log E
     pub bare : (i : ℕ) → find (current log) part ≡ Some i → is_pending i name log.changes ≡ false
-    pub apart : IsUnjoined log part
 
   ready_quiet : (log : CallLog) (c : Change) → IsTree (current (with_change log c)) → ((n g : ℕ) (m : List ℕ) → says c n g m ≡ None) → Ready log → Ready (with_change log c)
   ready_quiet log c tree none r = record {
@@ -71,7 +69,6 @@ module _ (name : List ℕ) (up : Route) (item_name : List ℕ) (l : Levels) (par
       | inl old ↦ both_ways _ (r.bare i (sym (same_quiet log c (λ g m. none _ g m) part) ∙ at)) old
       | inr new ↦ false≢true (sym (ap is_some (none 0 i name)) ∙ new)
     ]);
-    apart = unjoined_at log c part (quiet_within c none) (λ i at. sym (same_quiet log c (λ g m. none _ g m) part) ∙ at) r.apart;
   }
 
   then_synced : (from mid : CallLog) → Performs {A = Unit {0}} from (SyncFile part) (Ok tt) (Some mid) → Ready from → Ready mid
@@ -112,7 +109,7 @@ module _ (name : List ℕ) (up : Route) (item_name : List ℕ) (l : Levels) (par
           ∙ (ap (λ x. cond x Nothing (Moves g w.k g w.n (found_node (current log) (w.k ∷ folder)) (find (current log) (w.n ∷ folder)))) other
           ∙ ap (λ k. Moves g w.k g w.n k (find (current log) (w.n ∷ folder))) (ap (λ o. unwrap_or o 0) leads_here))) in
           subst (λ (x : CallLog). WaitsIf name up x F) (sym (d.is ∙ ap (with_change log) change))
-          (waits_placed name up log r.tree folder g last.folder w.k w.i part_there w.file (r.bare w.i w.leads) (λ h. r.apart w.i h w.leads) E F here f r.waits w.n (find (current log) (w.n ∷ folder)) w.apart)
+          (waits_placed name up log r.tree folder g last.folder w.k w.i part_there w.file (r.bare w.i w.leads) E F here f r.waits w.n (find (current log) (w.n ∷ folder)) w.apart)
 
   -- a full part is placed
   pub placed : (log now : CallLog) (mode : ℕ) → Ready log → AllDone log (placing mode part target) (Some now) → WaitsIf name up now F
@@ -144,7 +141,7 @@ module _ (name : List ℕ) (up : Route) (item_name : List ℕ) (l : Levels) (par
           let beside : (x.name ∷ x.up) ≡ w.k ∷ l.inner.copy.target = sym x.path_is ∙ w.part_is in
           let within : x.up ≡ l.inner.copy.target = cc in
           subst (λ (y : CallLog). WaitsIf name up y F) (sym (d.is ∙ ap (with_change log) change))
-          (waits_removed name up log r.tree x.up x.f x.folder x.name x.i x.leads x.no_folder (files.bare x.i name x.no_folder) (λ h. bare_unjoined log r.tree files x.i h x.no_folder) E F (λ same. here (same ∙ within)) f r.waits)
+          (waits_removed name up log r.tree x.up x.f x.folder x.name x.i x.leads x.no_folder (files.bare x.i name x.no_folder) E F (λ same. here (same ∙ within)) f r.waits)
 
 -- a folder is synced
 pub folder_synced : (name : List ℕ) (up : Route) (log now : CallLog) (target : Route) (E F : Type 0) → AllDone log (SyncFolder target ∷ []) (Some now) → (E → (up ≡ target) ⊎ F) → WaitsIf name up log E → WaitsIf name up now F

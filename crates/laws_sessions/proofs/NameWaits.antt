@@ -63,13 +63,13 @@ second_false true b h is = h
 second_false false b h is = absurd (false≢true is)
 
 module _ (f : ℕ) (name : List ℕ) where
-  -- one more change, of something else, leaves it so
-  pending_between : (cs : List Change) (c : Change) (more : List Change) → is_some (says c 0 f name) ≡ false → is_pending f name (cs ++ more) ≡ false → is_pending f name (cs ++ c ∷ more) ≡ false
-  pending_between [] c more off h = unless (is_some (says c 0 f name)) (is_unsynced c more) (is_pending f name more) (λ said. absurd (both_ways _ off said)) h
-  pending_between (d ∷ cs) c more off h =
+  -- one more change, of something else, or that waits for no more, leaves it so
+  pending_between : (cs : List Change) (c : Change) (more : List Change) → (is_some (says c 0 f name) ≡ true → is_unsynced c more ≡ false) → is_pending f name (cs ++ more) ≡ false → is_pending f name (cs ++ c ∷ more) ≡ false
+  pending_between [] c more gone h = unless (is_some (says c 0 f name)) (is_unsynced c more) (is_pending f name more) gone h
+  pending_between (d ∷ cs) c more gone h =
       let n = neither (is_some (says d 0 f name) && is_unsynced d (cs ++ more)) (is_pending f name (cs ++ more)) h in
       unless (is_some (says d 0 f name)) (is_unsynced d (cs ++ c ∷ more)) (is_pending f name (cs ++ c ∷ more))
-      (λ said. unsynced_as d (cs ++ more) (cs ++ c ∷ more) (λ i. settled_between i cs c more) (second_false _ _ n.0 said)) (pending_between cs c more off n.1)
+      (λ said. unsynced_as d (cs ++ more) (cs ++ c ∷ more) (λ i. settled_between i cs c more) (second_false _ _ n.0 said)) (pending_between cs c more gone n.1)
 
   pending_once : (cs : List Change) (g : ℕ) → is_pending f name (cs ++ Syncs g ∷ Syncs g ∷ []) ≡ false → is_pending f name (cs ++ Syncs g ∷ []) ≡ false
   pending_once [] g h = refl
@@ -85,9 +85,17 @@ module _ (f : ℕ) (name : List ℕ) where
       let n = neither (is_some (says d 0 f name) && is_unsynced d cs) (is_pending f name cs) none in
       unless (is_some (says d 0 f name)) (is_unsynced d (cs ++ more)) (is_pending f name (cs ++ more)) (λ said. is_unsynced-more d cs more (second_false _ _ n.0 said)) (pending_either cs more n.1 later)
 
-  -- a change of something else leaves a name as it waits
+  -- a change that waits for no other sync leaves a name as it waits
+  pub waits_after : (log : CallLog) (c : Change) (owed : List ℕ) → (is_some (says c 0 f name) ≡ true → is_unsynced c (map Syncs owed) ≡ false) → NameWaits log f name owed → NameWaits (with_change log c) f name owed
+  waits_after log c owed gone h = subst (λ cs. is_pending f name cs ≡ false) (sym (append_assoc log.changes (c ∷ []) (map Syncs owed))) (pending_between log.changes c (map Syncs owed) gone h)
+
+  -- and so does one of something else
   pub waits_still : (log : CallLog) (c : Change) (owed : List ℕ) → is_some (says c 0 f name) ≡ false → NameWaits log f name owed → NameWaits (with_change log c) f name owed
-  waits_still log c owed off h = subst (λ cs. is_pending f name cs ≡ false) (sym (append_assoc log.changes (c ∷ []) (map Syncs owed))) (pending_between log.changes c (map Syncs owed) off h)
+  waits_still log c owed off h = waits_after log c owed (λ said. absurd (both_ways _ off said)) h
+
+  -- a name that waits for nothing waits for no sync but its own folder's
+  pub waits_calm : (log : CallLog) → is_pending f name log.changes ≡ false → NameWaits log f name (f ∷ [])
+  waits_calm log none = pending_either log.changes (Syncs f ∷ []) none refl
 
   -- the sync of the first of those folders leaves the others
   pub waits_synced : (log : CallLog) (g : ℕ) (owed : List ℕ) → NameWaits log f name (g ∷ owed) → NameWaits (with_change log (Syncs g)) f name owed

@@ -16,9 +16,9 @@ use Rattle.copy_tree.specs.Standing.{Seen, begun_tree_copy}
 use Rattle.copy_tree.specs.TreeCopySteps.{CopySteps}
 use Rattle.laws_sessions.specs.Doubt.{name_waits}
 use Rattle.laws_sessions.proofs.Resting.{IsOfFiles}
-use Rattle.laws_sessions.proofs.Restless.{IsUnjoined}
 use Rattle.laws_sessions.proofs.FoldersEnd.{EndsLast}
 use Rattle.laws_sessions.proofs.CopyLaws.{CopyKnown}
+use Rattle.laws_sessions.proofs.WaitsAlone.{WaitsAlone}
 
 -- an open folder at this path is marked as dirty
 abbrev pub IsMarkedAt : Route → Level → Type 0
@@ -28,9 +28,9 @@ abbrev pub IsMarkedIn : Route → Level → List Level → Type 0
 IsMarkedIn up inner [] = IsMarkedAt up inner
 IsMarkedIn up inner (outer ∷ around) = IsMarkedAt up inner ⊎ IsMarkedIn up outer around
 
--- a change of this name of the folder at this path waits only where that is so, and no renaming does for the folder and another one
+-- a change of this name of the folder at this path waits only where that is so, and for the sync of that folder alone
 abbrev pub WaitsMarked : CallLog → Seen → List ℕ → Route → Type 0
-WaitsMarked log c name up = (name_waits log (name ∷ up) ≡ true → IsMarkedIn up c.levels.inner c.levels.around) × IsUnjoined log up
+WaitsMarked log c name up = (name_waits log (name ∷ up) ≡ true → IsMarkedIn up c.levels.inner c.levels.around) × WaitsAlone log (name ∷ up)
 
 -- the folder that is worked is marked while something is at work in it
 abbrev pub WorkedMarked : ItemAtWork → Level → Type 0

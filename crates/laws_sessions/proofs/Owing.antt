@@ -29,9 +29,10 @@ use Rattle.session_entries.specs.Named.{named_parts}
 use Rattle.session_entries.specs.declared.history.Entry.{Entry}
 use Rattle.laws_sessions.proofs.Histories.{IsReached, traced_reached}
 use Rattle.laws_sessions.proofs.Knowing.{IsKnown, HistoryFacts, clean_now, mode_waits}
-use Rattle.laws_sessions.proofs.Prefixes.{calm_told}
+use Rattle.laws_sessions.proofs.Prefixes.{calm_told, told_of}
 use Rattle.laws_sessions.proofs.Resting.{IsBeside}
 use Rattle.laws_sessions.proofs.Untouched.{none_on}
+use Rattle.laws_sessions.proofs.WaitsAlone.{WaitsAlone, alone_restless}
 use Rattle.laws_sessions.proofs.WaitsFor.{waits_for}
 
 -- a path of which a change waits lies in a folder that is owed
@@ -53,6 +54,19 @@ listed told dirty marks log (name ∷ up) known waits = by (find (current log) u
                 | inl t ↦ inr (t.0, t.1, record { f = f; g = other.0; at = is; beside = t.2; joint = other.1 })
                 | inr none ↦ absurd (none beside.path beside.at)
               ]
+        ]
+
+-- and in one that is listed, where it waits for the sync of its own folder alone
+alone_listed : (told : HistoryFacts) (dirty : List Route) (marks : Marks) (log : CallLog) (path : Route) → IsKnown told dirty marks log → WaitsAlone log path → name_waits log path ≡ true → Among dirty (folder_of path)
+alone_listed told dirty marks log [] known alone waits = absurd (false≢true waits)
+alone_listed told dirty marks log (name ∷ up) known alone waits = by (find (current log) up) refl
+  where
+    by : (o : Option ℕ) → find (current log) up ≡ o → Among dirty up
+    by None is = absurd (false≢true (sym (ap (λ x. option_map_or (λ f. is_pending f name log.changes) x false) is) ∙ waits))
+    by (Some f) is =
+        elim (known.tracked f (alone_restless log name up f alone is (sym (ap (λ x. option_map_or (λ g. is_pending g name log.changes) x false) is) ∙ waits))) [
+          | inl t ↦ subst (λ q. Among dirty q) (find-once (current log) known.guarded.tree t.0 up f t.2 is) t.1
+          | inr none ↦ absurd (none up is)
         ]
 
 module _ (opening now : CallLog) (newest : List Entry) (stand : Stand) (path : Route) (tree : IsTree (current opening)) (settled : all_settled opening.changes ≡ true) (traced : IsTraced opening newest stand now) where
@@ -83,13 +97,13 @@ module _ (opening now : CallLog) (newest : List Entry) (stand : Stand) (path : R
             | inr begins ↦ absurd (both_ways _ no_mount (ap (λ x. option_map_or (starts_mount (current now)) x false) at ∙ begins))
           ])
 
-  -- in a folder in which none is said to wait no mode does, parts aside, but where another mount begins
-  pub calm_there : (Among (named_parts newest) path → ⊥) → calm_told newest (folder_of path) ≡ true → (visible_tree (current now) path).is_mount ≡ false → node_waits now path ≡ false
-  calm_there unnamed calm no_mount = by path refl
-    where
-      by : (q : Route) → path ≡ q → node_waits now path ≡ false
-      by [] is = absurd (both_ways _ no_mount (ap (λ q. (visible_tree (current now) q).is_mount) is ∙ reached.kept.known.guarded.tree.mounted))
-      by (name ∷ up) is = calm_at unnamed (λ i at. (let still = reached.kept.known.calm up (subst (λ q. calm_told newest (folder_of q) ≡ true) is calm) in still.modes name i (ap (find (current now)) (sym is) ∙ at))) no_mount
+  -- at a path that is said to be calm no mode waits, parts aside, but where another mount begins
+  pub calm_there : (Among (named_parts newest) path → ⊥) → calm_told newest path ≡ true → (visible_tree (current now) path).is_mount ≡ false → node_waits now path ≡ false
+  calm_there unnamed calm no_mount = calm_at unnamed (λ i at. (let still = reached.kept.known.calm path calm in still.mode i at)) no_mount
+
+  -- and what waits of its name is listed with its own folder
+  pub calm_listed : calm_told newest path ≡ true → name_waits now path ≡ true → Among stand.dirty (folder_of path)
+  calm_listed calm waits = alone_listed (told_of opening now newest reached.part) stand.dirty reached.marks now path reached.kept.known (let still = reached.kept.known.calm path calm in still.alone) waits
 
 pub owed_law : OwedLaw
 owed_law = record {

@@ -1,9 +1,10 @@
 -- The paths at or below one.
-use Rattle.std.proofs.Common.{◌≡◌, ◌⊎◌, true, false, [], ◌∷◌, ◌++◌, refl, sym, ◌∙◌, ap, inl, inr}
+use Rattle.std.proofs.Common.{◌≡◌, ◌⊎◌, true, false, [], ◌∷◌, ◌++◌, refl, sym, ◌∙◌, ap, inl, inr, ◌||◌, subst}
 use Rattle.std.proofs.lemmas.Bool.{false≢true, false_from_ne_true, or_cases, or_left, or_right}
 use Rattle.std.proofs.lemmas.List.{append_cancel_right}
 use Rattle.mc_text.specs.Routes.{Route, is_prefix, same_path}
 use Rattle.tree_trait.proofs.Visible.{same_path-self, same_path-true}
+use Rattle.job_reports.specs.Paths.{folder_of}
 
 -- such a path has more names than the one, or none
 pub below_way : (top p : Route) → is_prefix top p ≡ true → (rest : Route) × (p ≡ rest ++ top)
@@ -17,6 +18,14 @@ pub is_below : (top rest : Route) → is_prefix top (rest ++ top) ≡ true
 is_below [] [] = refl
 is_below (name ∷ top) [] = or_left (same_path (name ∷ top) (name ∷ top)) (is_prefix (name ∷ top) top) (same_path-self (name ∷ top))
 is_below top (name ∷ rest) = or_right (same_path top (name ∷ rest ++ top)) (is_prefix top (rest ++ top)) (is_below top rest)
+
+-- it lies in the folder that holds that one, or in one at or below it
+pub in_or_below : (top path : Route) → is_prefix top path ≡ true → (same_path (folder_of path) (folder_of top) || is_prefix top (folder_of path)) ≡ true
+in_or_below top path h = let w = below_way top path h in by w.0 w.1
+  where
+    by : (rest : Route) → path ≡ rest ++ top → (same_path (folder_of path) (folder_of top) || is_prefix top (folder_of path)) ≡ true
+    by [] is = or_left _ _ (subst (λ q. same_path (folder_of q) (folder_of top) ≡ true) (sym is) (same_path-self (folder_of top)))
+    by (name ∷ rest) is = or_right _ _ (subst (λ q. is_prefix top (folder_of q) ≡ true) (sym is) (is_below top rest))
 
 -- what isn't below it has no such names
 pub not_below : (top p rest : Route) → is_prefix top p ≡ false → p ≡ rest ++ top → ⊥

@@ -18,7 +18,6 @@ use Rattle.laws_crash.proofs.Leading.{current_more}
 use Rattle.laws_crash.proofs.Placing.{placing_law}
 use Rattle.laws_crash.proofs.Syncing.{unaltered_law}
 use Rattle.laws_crash.proofs.Tops.{under_moved, none_below}
-use Rattle.laws_sessions.proofs.Restless.{unjoined_within}
 use Rattle.laws_sessions.proofs.Resting.{bare_may}
 use Rattle.laws_sessions.specs.Doubt.{way_waits}
 use Rattle.laws_sessions.proofs.Knowing.{IsKnown, RoamInTransit, HistoryFacts, held}
@@ -51,7 +50,7 @@ firm_known told dirty marks log i clean no_mode known = record {
   });
   files = known.files;
   moded = λ j before is unclean. let h = known.moded j before is unclean in record { path = h.path; leads = h.leads; out = h.out; listed = h.listed; told = h.told; shown = h.shown };
-  calm = λ p there. let calm = known.calm p there in record { modes = calm.modes; apart = calm.apart };
+  calm = λ p there. let calm = known.calm p there in record { mode = calm.mode; alone = calm.alone };
   folders = λ j is. let k = known.folders j is in (k.0, still _ _ k.1);
   aside = known.aside;
   left = known.left;
@@ -234,7 +233,7 @@ module _ (told after : HistoryFacts) (dirty dirty_after : List Route) (marks : M
     folders = λ p there. inl (h.folders p there);
     modes = h.modes;
     calm = λ p there. inl (h.calm p there);
-    apart = λ p g k still there. unjoined_within g k moves ap_same;
+    apart = λ p still. inl ap_same;
     no_mode = no_mode;
     touched = λ n p at. elim at [
       | inl e ↦ subst (λ q. after.doubt n q ≡ true) (sym e) (h.doubted n).0

@@ -37,7 +37,7 @@ abbrev pub folders_told : CallLog → List Entry → Route → Bool
 folders_told opening [] = folder_at (current opening)
 folders_told opening (e ∷ older) = folders_event e.what (live_jobs older) (folders_told opening older)
 
--- the folders in which no mode waits after an event
+-- the paths that are calm after an event
 abbrev pub calm_event : Event → List LiveJob → (Route → Bool) → Route → Bool
 calm_event (Step id did) jobs before = option_map_or (λ item. calm_by did item before) (live_item id jobs) before
 calm_event (Key key now refusals lost) jobs before = before
@@ -48,7 +48,7 @@ calm_event (Order id order) jobs before = before
 calm_event (Next id plan) jobs before = before
 calm_event Closed jobs before = before
 
--- after these entries: at the opening none waits
+-- after these entries: at the opening each is
 abbrev pub calm_told : List Entry → Route → Bool
 calm_told [] = anywhere
 calm_told (e ∷ older) = calm_event e.what (live_jobs older) (calm_told older)

@@ -19,11 +19,12 @@ use Rattle.laws_crash.proofs.Leading.{clean_more, current_more}
 use Rattle.laws_crash.proofs.Syncing.{unaltered_law}
 use Rattle.laws_sessions.specs.Doubt.{is_pending, way_waits, name_waits, is_joint}
 use Rattle.laws_sessions.proofs.Pending.{is_within, pending_less, says_at}
-use Rattle.laws_sessions.proofs.Knowing.{HistoryFacts, HasMode, IsCalmFolder, IsKnown, IsUnreached, held}
-use Rattle.laws_sessions.proofs.Resting.{IsBeside, IsOfFiles, IsSureFolder, folder_at, joint_still, stands_at, sure_still, unborn_more, unjoined_still}
-use Rattle.laws_sessions.proofs.Restless.{IsUnjoined, is_restless, restless_less}
+use Rattle.laws_sessions.proofs.Knowing.{HistoryFacts, HasMode, IsCalmPath, IsKnown, IsUnreached, held}
+use Rattle.laws_sessions.proofs.Resting.{IsBeside, IsOfFiles, IsSureFolder, folder_at, joint_still, stands_at, sure_still, unborn_more}
+use Rattle.laws_sessions.proofs.Restless.{is_restless, restless_less}
 use Rattle.laws_sessions.proofs.RoamingFolders.{renames_none, roaming_still}
 use Rattle.laws_sessions.proofs.Since.{clean_since, pending_since, renamed_since}
+use Rattle.laws_sessions.proofs.WaitsAlone.{WaitsAlone, alone_still}
 use Rattle.laws_sessions.proofs.WaitsFor.{names_said}
 
 mounts_after : (s : FileSystem) (c : Change) → (after_change s c).mounts ≡ s.mounts
@@ -178,8 +179,8 @@ module _ (said : HistoryFacts) (dirty : List Route) (marks : Marks) (log : CallL
   pub calm_joint : (f g : ℕ) (up : Route) → is_joint f g now.changes ≡ true → find (current now) up ≡ Some f → IsBeside now up g
   calm_joint = joint_still log c known.guarded.tree known.files n.within (starts_same log c) as_before was_at (λ q f g joint at. same_quiet log c n.names q ∙ at) known.joint
 
-  pub calm_apart : (p : Route) → IsUnjoined log p → IsUnjoined now p
-  calm_apart p apart = unjoined_still log c known.guarded.tree known.files n.within (starts_same log c) as_before was_at p apart
+  pub calm_alone : (p : Route) → WaitsAlone log p → WaitsAlone now p
+  calm_alone p alone = alone_still log c known.files was_at n.within p alone
 
 -- a quiet call, and what it alters is nothing that can be seen but the part that stands
 pub record IsCalm (said : HistoryFacts) (marks : Marks) (log : CallLog) (c : Change) : Type 0 where
@@ -217,12 +218,12 @@ module _ (said : HistoryFacts) (dirty : List Route) (marks : Marks) (log : CallL
             shown = h.shown ∙ ap (λ n. Some (value (with_mode before n))) (sym (unaltered i same there));
           }
 
-  calm_still : (p : Route) → said.calm p ≡ true → IsCalmFolder marks (with_change log c) p
+  calm_still : (p : Route) → said.calm p ≡ true → IsCalmPath marks (with_change log c) p
   calm_still p there =
       let calm = known.calm p there in
       record {
-        modes = λ name i at. elim (calm.modes name i (sym (same_quiet log c quiet_of.names (name ∷ p)) ∙ at)) [ inl none ↦ inl none | inr begins ↦ inr (starts_same log c i ∙ begins) ];
-        apart = calm_apart said dirty marks log c known nameless p calm.apart;
+        mode = λ i at. elim (calm.mode i (sym (same_quiet log c quiet_of.names p) ∙ at)) [ inl none ↦ inl none | inr begins ↦ inr (starts_same log c i ∙ begins) ];
+        alone = calm_alone said dirty marks log c known nameless p calm.alone;
       }
 
   pub calm_known : IsKnown said dirty marks (with_change log c)

@@ -33,11 +33,13 @@ use Rattle.laws_sessions.proofs.Calming.{refused_is}
 use Rattle.laws_sessions.proofs.Deleted.{IsRemoval, comes_refused, folder_removed, removes_thing}
 use Rattle.laws_sessions.proofs.DeletionSteps.{Steps, ends, joined_holds, joined_more, same_dirty, tried}
 use Rattle.laws_sessions.proofs.Intact.{removed_in}
-use Rattle.laws_sessions.proofs.JobKnows.{HasName, KnowsAfter, WorkKnows, calm_in, over_it}
-use Rattle.laws_sessions.proofs.Knowing.{IsCalmFolder, IsKept, HistoryFacts}
+use Rattle.laws_sessions.proofs.JobKnows.{HasName, KnowsAfter, WorkKnows}
+use Rattle.laws_sessions.proofs.Knowing.{IsCalmPath, IsKept, HistoryFacts}
+use Rattle.laws_sessions.proofs.Resting.{name_sure}
 use Rattle.laws_sessions.proofs.Sources.{item_in}
 use Rattle.laws_sessions.proofs.Stepped.{StepRan, said_after}
-use Rattle.laws_sessions.proofs.ThingRests.{NoneWithin, around_sure, modes_within, none_around, none_in_emptied, prefix_append, sure_within, unjoined}
+use Rattle.laws_sessions.proofs.ThingRests.{NoneWithin, around_sure, modes_within, none_in_emptied, prefix_append, sure_within, unjoined}
+use Rattle.laws_sessions.proofs.WaitsAlone.{alone_calm}
 
 module _ (told : HistoryFacts) (dirty dirty_after : List Route) (marks : Marks) (log now : CallLog) (kept : IsKept told dirty marks log) where
   abbrev In : Did → Course → Work → Work → Type 0
@@ -63,10 +65,11 @@ module _ (told : HistoryFacts) (dirty dirty_after : List Route) (marks : Marks) 
       it : IsRemoval log now r.path
       it = folder_removed log now r.path kept.known.guarded.tree done
 
-      calm : (q : Route) → may_change (item_in (RemoveEmptied r)) q ≡ true → IsCalmFolder marks log q
-      calm q own =
-          subst (IsCalmFolder marks log) (sym (same_path-true q (folder_of r.path) own))
-          (calm_in told dirty marks log kept (folder_of r.path) (over_it (current log) (folder_of r.path) dirty (none_around told dirty marks log kept r.path name within)))
+      calm : (q : Route) → may_change (item_in (RemoveEmptied r)) q ≡ true → IsCalmPath marks log q
+      calm q own = subst (IsCalmPath marks log) (sym (same_path-true q r.path own)) (record {
+        mode = λ i at. inl (modes_within told dirty marks log kept r.path name within [] i at);
+        alone = alone_calm log r.path (name_sure log r.path (sure_within told dirty marks log kept r.path name within []));
+      })
 
   -- what is known of it at a later stage, or in another course, whatever is dirty
   stays : (course : Course) (r new : Removing) → HasName r.path → told.part ≡ None → new.path ≡ r.path → (routes : List Route) → WorkKnows told routes marks log course (RemoveEmptied new)

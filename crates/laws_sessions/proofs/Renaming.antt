@@ -15,13 +15,14 @@ use Rattle.laws_crash.specs.Guarded.{Marks, IsNaming, IsUnder, Touches, with_mod
 use Rattle.laws_crash.proofs.Guarding.{naming_law, find_same, found_at}
 use Rattle.laws_crash.proofs.Syncing.{unaltered_law}
 use Rattle.laws_sessions.specs.Doubt.{is_pending, way_waits, name_waits, is_joint, joins}
-use Rattle.laws_sessions.proofs.Pending.{pending_less, says_at}
-use Rattle.laws_sessions.proofs.Knowing.{HasMode, HasNoMode, IsCalmFolder, IsKnown, IsUnreached, HistoryFacts, held, nowhere}
+use Rattle.laws_sessions.proofs.Pending.{is_within, pending_less, says_at}
+use Rattle.laws_sessions.proofs.Knowing.{HasMode, HasNoMode, IsCalmPath, IsKnown, IsUnreached, HistoryFacts, held, nowhere}
 use Rattle.laws_sessions.proofs.Quiet.{held_same, kind_same, shows_same, starts_same, unclean_before, was_bare}
-use Rattle.laws_sessions.proofs.Resting.{IsBeside, IsSureFolder, folder_at_of, joint_after, joint_folder, mount_still, restless_folder, stands_at, sure_still, unborn_more, unjoined_after}
+use Rattle.laws_sessions.proofs.Resting.{IsBeside, IsSureFolder, folder_at_of, joint_after, joint_folder, mount_still, restless_folder, stands_at, sure_still, unborn_more}
 use Rattle.laws_sessions.proofs.Restless.{is_restless, named_both, names_in, restless_less}
 use Rattle.laws_sessions.proofs.InTransit.{renames}
 use Rattle.laws_sessions.proofs.RoamingFolders.{renaming_says, roaming_still}
+use Rattle.laws_sessions.proofs.WaitsAlone.{alone_after}
 use Rattle.laws_sessions.proofs.WaitsFor.{names_said}
 use Rattle.laws_sessions.proofs.Since.{clean_since, pending_all, pending_since, renamed_since}
 
@@ -75,10 +76,10 @@ pub record IsFileNaming (said after : HistoryFacts) (dirty dirty_after : List Ro
   -- where a folder is said to be on the disk it was said so before, or it is
   pub folders : (p : Route) → after.folders p ≡ true → (said.folders p ≡ true) ⊎ IsSureFolder log p
   pub modes : (p : Route) → said.modes p ≡ true → after.modes p ≡ true
-  -- nor does a mode wait in a folder of which that is said, nor of what stands at the two paths
-  pub calm : (p : Route) → after.calm p ≡ true → (said.calm p ≡ true) ⊎ IsCalmFolder marks log p
-  -- nor does the call join such a folder with another one
-  pub apart : (p : Route) (k h : ℕ) → after.calm p ≡ true → find (current (with_change log c)) p ≡ Some k → joins k h c ≡ false
+  -- what is said to be calm was said so before, or is calm; nor does a mode wait of what stands at the two paths
+  pub calm : (p : Route) → after.calm p ≡ true → (said.calm p ≡ true) ⊎ IsCalmPath marks log p
+  -- nor is it one of the two, but where the call stays in one folder
+  pub apart : (p : Route) → after.calm p ≡ true → (is_within c ≡ true) ⊎ ((p ≡ first) ⊎ (p ≡ second) → ⊥)
   pub no_mode : (p : Route) (i : ℕ) → (p ≡ first) ⊎ (p ≡ second) → (find (current log) p ≡ Some i) ⊎ (find (current (with_change log c)) p ≡ Some i) → marks.modes i ≡ None
   -- of these two a change may wait then
   pub touched : (n : ℕ) (p : Route) → (p ≡ first) ⊎ (p ≡ second) → after.doubt n p ≡ true
@@ -257,13 +258,23 @@ module _ (said after : HistoryFacts) (dirty dirty_after : List Route) (marks : M
         }
   ]
 
-  calm_was : (p : Route) → after.calm p ≡ true → IsCalmFolder marks log p → IsCalmFolder marks now p
+  -- the call changes names at the two paths alone
+  said_at : (name : List ℕ) (q : Route) (g : ℕ) → find (current now) q ≡ Some g → is_some (says c 0 g name) ≡ true → ((name ∷ q) ≡ first) ⊎ ((name ∷ q) ≡ second)
+  said_at name q g is s = elim (names.at g name s) [
+    | inl one ↦ inl (subst (λ (r : Route). (name ∷ r) ≡ first) (find-once (current now) naming_of.tree up q f names.stands (is ∙ ap (λ k. Some k) one.0)) one.1)
+    | inr other ↦ inr (subst (λ (r : Route). (name ∷ r) ≡ second) (find-once (current now) naming_of.tree beside q e names.stands_beside (is ∙ ap (λ k. Some k) other.0)) other.1)
+  ]
+
+  calm_was : (p : Route) → after.calm p ≡ true → IsCalmPath marks log p → IsCalmPath marks now p
   calm_was p then calm = record {
-    modes = λ name i at. elim (where_is (name ∷ p)) [
-      | inl here ↦ inl (n.no_mode (name ∷ p) i here (inr at))
-      | inr off ↦ elim (calm.modes name i (sym (n.off (name ∷ p) off.0 off.1).0 ∙ at)) [ inl none ↦ inl none | inr begins ↦ inr (starts_same log c i ∙ begins) ]
+    mode = λ i at. elim (where_is p) [
+      | inl here ↦ inl (n.no_mode p i here (inr at))
+      | inr off ↦ elim (calm.mode i (sym (n.off p off.0 off.1).0 ∙ at)) [ inl none ↦ inl none | inr begins ↦ inr (starts_same log c i ∙ begins) ]
     ];
-    apart = unjoined_after log c known.guarded.tree known.files (starts_same log c) as_before folder_was p (λ g h at. n.apart p g h then at) calm.apart;
+    alone = alone_after log c known.files folder_was p (λ name q g is at. elim (n.apart p then) [
+      | inl within ↦ inl within
+      | inr off ↦ inr (false_from_ne_true _ (λ said. off (subst (λ r. (r ≡ first) ⊎ (r ≡ second)) (sym is) (said_at name q g at said))))
+    ]) calm.alone;
   }
 
   -- a path on the mount of the two folders leads to one in which a name changes
@@ -322,15 +333,7 @@ module _ (said after : HistoryFacts) (dirty dirty_after : List Route) (marks : M
           n.doubts count (name ∷ q) (known.doubts count (name ∷ q) (ap (λ x. option_map_or (λ k. is_pending k name (drop count log.changes)) x false) at ∙ old))
 
       new : (g : ℕ) → find (current now) q ≡ Some g → is_some (says c 0 g name) ≡ true → after.doubt count (name ∷ q) ≡ true
-      new g is s =
-          elim (names.at g name s) [
-            | inl one ↦
-                let same : up ≡ q = find-once (current now) naming_of.tree up q f names.stands (is ∙ ap (λ k. Some k) one.0) in
-                n.touched count (name ∷ q) (inl (subst (λ (r : Route). (name ∷ r) ≡ first) same one.1))
-            | inr other ↦
-                let same : beside ≡ q = find-once (current now) naming_of.tree beside q e names.stands_beside (is ∙ ap (λ k. Some k) other.0) in
-                n.touched count (name ∷ q) (inr (subst (λ (r : Route). (name ∷ r) ≡ second) same other.1))
-          ]
+      new g is s = n.touched count (name ∷ q) (said_at name q g is s)
 
       by : (o : Option ℕ) → find (current now) q ≡ o → after.doubt count (name ∷ q) ≡ true
       by None is = absurd (false≢true (in_now None is))

@@ -1,9 +1,9 @@
--- What a history says of folders that are on the disk, and of those in which no mode waits, may be any that are so.
+-- What a history says of folders that are on the disk, and of calm paths, may be any that are so.
 use Rattle.std.specs.Prelude.{◌≡◌, Bool, true, List}
 use Rattle.mc_text.specs.Routes.{Route}
 use Rattle.tree_trait.specs.Change.{CallLog}
 use Rattle.laws_crash.specs.Guarded.{Marks}
-use Rattle.laws_sessions.proofs.Knowing.{HasMode, IsCalmFolder, IsKept, HistoryFacts}
+use Rattle.laws_sessions.proofs.Knowing.{HasMode, IsCalmPath, IsKept, HistoryFacts}
 use Rattle.laws_sessions.proofs.Resting.{IsSureFolder}
 
 abbrev pub restated : HistoryFacts → (Route → Bool) → (Route → Bool) → HistoryFacts
@@ -13,7 +13,7 @@ module _ (told : HistoryFacts) (folders calm : Route → Bool) where
   abbrev other : HistoryFacts
   other = restated told folders calm
 
-  pub restated_kept : (dirty : List Route) (marks : Marks) (log : CallLog) → IsKept told dirty marks log → ((p : Route) → folders p ≡ true → IsSureFolder log p) → ((p : Route) → calm p ≡ true → IsCalmFolder marks log p)
+  pub restated_kept : (dirty : List Route) (marks : Marks) (log : CallLog) → IsKept told dirty marks log → ((p : Route) → folders p ≡ true → IsSureFolder log p) → ((p : Route) → calm p ≡ true → IsCalmPath marks log p)
       → IsKept other dirty marks log
   restated_kept dirty marks log kept firm quiet =
       let k = kept.known in

@@ -22,13 +22,12 @@ use Rattle.laws_crash.proofs.Leading.{current_more}
 use Rattle.laws_crash.proofs.ModeLaws.{setting_law}
 use Rattle.laws_crash.proofs.Syncing.{unaltered_law}
 use Rattle.laws_crash.proofs.Tops.{path_once}
-use Rattle.job_reports.specs.Paths.{folder_of}
 use Rattle.laws_sessions.specs.Doubt.{is_pending, name_waits, way_waits}
 use Rattle.laws_sessions.proofs.Changing.{folder_anchored}
 use Rattle.laws_sessions.proofs.JobKnows.{none_unlisted}
-use Rattle.laws_sessions.proofs.Knowing.{HasMode, IsCalmFolder, IsCalmIn, IsKept, IsKnown, HistoryFacts, firm_now, held}
+use Rattle.laws_sessions.proofs.Knowing.{HasMode, IsCalmPath, IsKept, IsKnown, HistoryFacts, firm_now, held}
 use Rattle.laws_sessions.proofs.PartNodes.{moded_node}
-use Rattle.laws_sessions.proofs.Quiet.{IsNameless, calm_apart, calm_files, calm_firm, calm_joint, calm_tracked, held_same, shows_same, starts_same, unclean_before, waits_before, was_folder, since_before}
+use Rattle.laws_sessions.proofs.Quiet.{IsNameless, calm_alone, calm_files, calm_firm, calm_joint, calm_tracked, held_same, shows_same, starts_same, unclean_before, waits_before, was_folder, since_before}
 use Rattle.laws_sessions.proofs.Resting.{IsSureFolder, settled_unless}
 use Rattle.laws_sessions.proofs.Restless.{is_restless}
 use Rattle.laws_sessions.proofs.RoamingFolders.{roaming_still}
@@ -56,7 +55,7 @@ pub record SetsMode (told after : HistoryFacts) (dirty dirty_after : List Route)
   pub folders : (p : Route) → after.folders p ≡ true → (told.folders p ≡ true) ⊎ IsSureFolder log p
   pub modes : after.modes path ≡ true
   pub modes_more : (p : Route) → told.modes p ≡ true → after.modes p ≡ true
-  pub calm : (p : Route) → after.calm p ≡ true → IsCalmFolder marks log p × (p ≡ folder_of path → ⊥)
+  pub calm : (p : Route) → after.calm p ≡ true → IsCalmPath marks log p × (p ≡ path → ⊥)
 
 some_not_none : {A : Type 0} (x : ℕ) → (let o : Option ℕ = None in o) ≡ Some x → A
 some_not_none x h = absurd (let e : ⊥ = cc in e)
@@ -103,10 +102,6 @@ folder_once told dirty marks log kept path i at folder sure p out was x found = 
       let same : p ≡ path = path_once marks log kept.known.guarded path p i (folder_anchored told dirty marks log kept.known kept.roams path i at folder sure) at (subst (λ y. MayFind log p y) (before ∙ was) found) in
       subst (λ q. IsSettledAt log q) (sym same) (settled_unless log path sure) x found
 ]
-
--- In a calm folder no mode waits of what doesn't begin a mount.
-pub calm_mode : (marks : Marks) (s : FileSystem) (name : List ℕ) (up : Route) (i : ℕ) → IsCalmIn marks s up → find s (name ∷ up) ≡ Some i → starts_mount s i ≡ false → marks.modes i ≡ None
-calm_mode marks s name up i calm at inside = elim (calm name i at) [ inl none ↦ none | inr begins ↦ absurd (both_ways _ inside begins) ]
 
 still_out : (a b : Bool) → (a && not b) ≡ false → (a ≡ false) ⊎ (b ≡ true)
 still_out true true h = inr refl
@@ -335,18 +330,18 @@ module _ (told after : HistoryFacts) (dirty dirty_after : List Route) (marks : M
                   ∙ ap (λ n. (let v : Option Value = Some (value (with_mode before n)) in v)) (sym (unaltered j off (kept.known.guarded.there h.path j (found_at log h.path (Some j) h.leads)))));
             }
 
-    calm_then : (p : Route) → after.calm p ≡ true → IsCalmFolder new now p
+    calm_then : (p : Route) → after.calm p ≡ true → IsCalmPath new now p
     calm_then p there_calm =
         let calm = s.calm p there_calm in
         let before = calm.0 in
         record {
-          modes = λ name j at.
-              let here : find (current log) (name ∷ p) ≡ Some j = sym (found_as (name ∷ p)) ∙ at in
-              elim (before.modes name j here) [
-                | inl none ↦ inl (still_none j (λ same. calm.1 (ap folder_of (find-once (current log) kept.known.guarded.tree (name ∷ p) path i (here ∙ ap (λ n. Some n) same) s.at))) none)
+          mode = λ j at.
+              let here : find (current log) p ≡ Some j = sym (found_as p) ∙ at in
+              elim (before.mode j here) [
+                | inl none ↦ inl (still_none j (λ same. calm.1 (find-once (current log) kept.known.guarded.tree p path i (here ∙ ap (λ n. Some n) same) s.at)) none)
                 | inr begins ↦ inr (starts_same log sets j ∙ begins)
               ];
-          apart = calm_apart told dirty marks log sets kept.known nameless p before.apart;
+          alone = calm_alone told dirty marks log sets kept.known nameless p before.alone;
         }
 
     shows_then : (p : Route) (b : Bool) → same_path p path ≡ b → visible_tree (current now) p ≡ after.tree p

@@ -106,13 +106,13 @@ abbrev pub modes_by : Did → (Route → Bool) → Route → Bool
 modes_by (Set path) before = λ p. before p || same_path p path
 modes_by did before = before
 
--- in the folders of a job's first change no mode waits from then on, until one is set there, and no renaming for them and others, until something is moved from or to them
+-- The paths of which a job may change the names are calm from its first change on, until a mode is set there, or they are moved.
 abbrev pub calm_by : Did → ItemOfJob → (Route → Bool) → Route → Bool
 calm_by (Began made) item before = λ p. may_change item p || before p
 calm_by (Removed path) item before = λ p. may_change item p || before p
 calm_by (Made path) item before = λ p. may_change item p || before p
-calm_by (Set path) item before = λ p. before p && not (same_path p (folder_of path))
-calm_by (Moved pair) item before = λ p. before p && not (is_of_move pair p || (same_path p (folder_of pair.source) || same_path p (folder_of pair.target)))
+calm_by (Set path) item before = λ p. before p && not (same_path p path)
+calm_by (Moved pair) item before = λ p. before p && not (is_of_move pair p)
 calm_by did item before = before
 
 -- no other job is live that could have named a part

@@ -1,17 +1,13 @@
 -- What a copy knows of its open folders: as it begins, after each step, and of the name that is met next.
-use Rattle.std.proofs.Common.{◌≡◌, ℕ, suc, zero, Bool, List, [], ◌∷◌, refl, sym, ◌∙◌, ap, subst, inl, inr, Option, Some}
-use Rattle.std.specs.Prelude.{if◌then◌else◌, map}
+use Rattle.std.proofs.Common.{◌≡◌, ℕ, suc, zero, Bool, List, ◌∷◌, refl, sym, ◌∙◌, ap, subst, inl, inr, Option, Some}
 use Rattle.mc_text.specs.Routes.{Route}
 use Rattle.tree_trait.specs.Change.{CallLog, current}
-use Rattle.tree_trait.specs.CrashImages.{Among}
 use Rattle.job_answers.specs.declared.replies.Replies.{Replies}
 use Rattle.copy_file.specs.Copying as file
 use Rattle.copy_file.specs.Copying.{Copying}
 use Rattle.copy_link.specs.LinkCopying as link
 use Rattle.copy_link.specs.LinkCopying.{LinkCopying}
-use Rattle.tree_walk.specs.Places.{is_empty}
-use Rattle.copy_folders.specs.declared.level.Level.{Level}
-use Rattle.copy_folders.specs.Levels.{levels_closed, coming, is_around_dirty}
+use Rattle.copy_folders.specs.Levels.{levels_closed, is_around_dirty}
 use Rattle.copy_tree.specs.declared.item.ItemAtWork.{ItemAtWork}
 use Rattle.copy_tree.specs.declared.item.ItemAtWork.TheVariants.{Next, File, Link, Stays}
 use Rattle.copy_tree.specs.declared.progress.Progress.{Progress}
@@ -33,7 +29,7 @@ use Rattle.laws_sessions.proofs.TreeFolders.{closed_levels}
 use Rattle.laws_sessions.proofs.TreeKnows.{filled_inner, levels_left}
 use Rattle.laws_sessions.proofs.TreePlaces.{laid_closed, laid_left, laid_works, nested_of, next_once, placed_of}
 use Rattle.laws_sessions.proofs.ItemSteps.{works_item}
-use Rattle.laws_sessions.proofs.TreeSteps.{StepKnown, copy_step}
+use Rattle.laws_sessions.proofs.TreeSteps.{StepKnown, among_next, copy_step}
 
 -- a copy that was begun
 pub beginning_law : BeginningLaw
@@ -131,14 +127,6 @@ step_law free replies old new did calls log now faults faults_after s tree files
     let levels = copy_step free replies old new did calls log now faults faults_after s b.0 b.2 in
     let laid = laid_works (IsPartPlace free mid) replies mid new did (Some log) (Some now) b.1 mid.item s.works in
     (subst (KnownAs now new) (sym (works_name (IsPartPlace free mid) replies mid new did (Some log) (Some now) mid.item s.works)) (levels, laid), works_item free replies mid new did log now b.0 mid.item refl b.2 s.works)
-
--- the name that is met next, as it is at its target
-pub among_next : (c : Seen) (name : List ℕ) (names : List (List ℕ)) → c.levels.inner.names.names ≡ name ∷ names → Among (ahead c) (target_name c name)
-among_next c name names is = by c.levels.around
-  where
-    by : (around : List Level) → Among (coming c.name c.levels.inner.names around) (if◌then◌else◌ (is_empty around) c.name name)
-    by [] = subst (λ xs. Among (map (λ (met : List ℕ). c.name) xs) c.name) (sym is) (inl refl)
-    by (outer ∷ around) = subst (λ xs. Among xs name) (sym is) (inl refl)
 
 pub met_law : MetLaw
 met_law log c name names known clean is =

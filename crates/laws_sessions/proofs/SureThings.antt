@@ -35,7 +35,8 @@ use Rattle.laws_sessions.proofs.Knowing.{IsKnown, HistoryFacts}
 use Rattle.laws_sessions.proofs.NameChanges.{WaitsIf}
 use Rattle.laws_sessions.proofs.NameRuns.{quiet_waits}
 use Rattle.laws_sessions.proofs.Sources.{item_in, making_item}
-use Rattle.laws_sessions.proofs.Untouched.{NoneOn, none_joint, none_waits}
+use Rattle.laws_sessions.proofs.Untouched.{NoneOn, none_waits}
+use Rattle.laws_sessions.proofs.WaitsAlone.{alone_calm}
 
 -- no change waits of the name of the thing to which a job gives a mode
 abbrev pub IsSureThing : ItemOfJob → CallLog → Type 0
@@ -84,7 +85,7 @@ set_sure told dirty marks log now s new path known none calls = by s.path
     by [] = refl
     by (name ∷ up) =
         let d = one_done log (Sets_mode s.path s.mode) now calls in
-        let before : WaitsIf name up log ⊥ = (λ waits. true≢false (sym waits ∙ none_waits told dirty marks log up known (on up) name), none_joint told dirty marks log up known (on up)) in
+        let before : WaitsIf name up log ⊥ = (λ waits. true≢false (sym waits ∙ none_waits told dirty marks log up known (on up) name), alone_calm log (name ∷ up) (none_waits told dirty marks log up known (on up) name)) in
         let after = quiet_waits name up ⊥ log (Sets (found_node (current log) s.path) s.mode) known.guarded.tree (λ n g m. refl) before in
         subst (λ (l : CallLog). name_waits l (name ∷ up) ≡ false) (sym d.is) (false_from_ne_true _ after.0)
 

@@ -35,7 +35,7 @@ use Rattle.laws_sessions.proofs.OwedModes.{OwedModes}
 use Rattle.laws_sessions.proofs.TreeCalls.{around_comes, idle_refused, refused_end, synced_end}
 use Rattle.laws_sessions.proofs.TreeGoing.{LogHas}
 use Rattle.laws_sessions.proofs.TreeLeads.{log_has}
-use Rattle.laws_sessions.proofs.TreeKnown.{AroundKnows, IsCalmBut, ItemHas, TreeHas, TreeStands, around_settled, LiesOutside}
+use Rattle.laws_sessions.proofs.TreeKnown.{IsCalmBut, ItemHas, TargetKnows, TreeHas, TreeStands, around_settled, LiesOutside}
 
 -- The machine's step begins here; and a copy that has changed nothing changes something only where nothing is owed.
 pub record Before (told : HistoryFacts) (dirty : List Route) (marks : Marks) (log : CallLog) (c : SubtreeCopying) (mid : Seen) : Type 0 where
@@ -43,7 +43,7 @@ pub record Before (told : HistoryFacts) (dirty : List Route) (marks : Marks) (lo
   pub leaves : LeavesAll n c.at mid
   pub stands : TreeStands dirty c
   pub part : ItemHas told dirty marks (current log) GoesOn mid.item
-  pub around : is_fresh c.at.stage ≡ false → AroundKnows told marks (current log) (record c { at = mid })
+  pub around : is_fresh c.at.stage ≡ false → TargetKnows told marks (current log) (record c { at = mid })
   pub begun : is_fresh c.at.stage ≡ false → TreeHas told marks log c
   pub owed : is_fresh c.at.stage ≡ true → NoneOwed (current log) (Copy c) dirty
 
@@ -57,7 +57,7 @@ had_begun told dirty marks log c mid b some = let h = b.begun some in (h.outside
 -- What is known after a step, of the part, and of the folder around once something was changed; and the modes that are owed are, as the history tells them then.
 pub record Then (told : HistoryFacts) (dirty_after : List Route) (log now : CallLog) (c : SubtreeCopying) (did : Did) (new : Seen) (m : Marks) : Type 0 where
   pub part : ItemHas (said_after now did (Copy c) told) dirty_after m (current now) (course_after did) new.item
-  pub around : is_fresh (after_report did c.at.stage) ≡ false → AroundKnows (said_after now did (Copy c) told) m (current now) (record c { at = new })
+  pub around : is_fresh (after_report did c.at.stage) ≡ false → TargetKnows (said_after now did (Copy c) told) m (current now) (record c { at = new })
   pub had : is_fresh (after_report did c.at.stage) ≡ false → Had log c
   pub modes : OwedModes told.tree new → OwedModes (let s : HistoryFacts = said_after now did (Copy c) told in s.tree) new
 
@@ -79,7 +79,7 @@ module _ (told : HistoryFacts) (dirty dirty_after : List Route) (marks : Marks) 
 
   -- what is known where nothing is at work
   abbrev Idle : Seen → Marks → FileSystem → Type 0
-  Idle new m s = (told.part ≡ None) × (is_fresh c.at.stage ≡ false → AroundKnows told m s (record c { at = new }))
+  Idle new m s = (told.part ≡ None) × (is_fresh c.at.stage ≡ false → TargetKnows told m s (record c { at = new }))
 
   idle_settles : (new : Seen) (l : CallLog) (m : Marks) → Idle new m (current l) → Idle new (settled_marks l m) (current l)
   idle_settles new l m (part, around) = (part, λ some. around_settled l m told (record c { at = new }) (around some))

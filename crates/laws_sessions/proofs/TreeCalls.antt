@@ -41,7 +41,7 @@ use Rattle.laws_sessions.proofs.Calming.{cleared_known, nothing_known, refused_i
 use Rattle.laws_sessions.proofs.Knowing.{IsKept, IsKnown, HistoryFacts, settled_marks}
 use Rattle.laws_sessions.proofs.QuietRuns.{row_done, row_stops}
 use Rattle.laws_sessions.proofs.Stepped.{StepRan, comes_none, comes_one}
-use Rattle.laws_sessions.proofs.TreeKnown.{AroundKnows, ItemHas}
+use Rattle.laws_sessions.proofs.TreeKnown.{ItemHas, TargetKnows}
 use Rattle.laws_sessions.proofs.TreeSkipped.{skipped_item, skips_none}
 
 -- a row of no calls stops nowhere
@@ -173,14 +173,14 @@ module _ (Q : Marks → FileSystem → Type 0) (settles : (l : CallLog) (m : Mar
 
 -- What is known of the part and of the folder around, wherever the copy stands.
 abbrev pub PartAt : HistoryFacts → List Route → Marks → FileSystem → Course → SubtreeCopying → Seen → Type 0
-PartAt told dirty marks s course c at = ItemHas told dirty marks s course at.item × AroundKnows told marks s (record c { at = at })
+PartAt told dirty marks s course c at = ItemHas told dirty marks s course at.item × TargetKnows told marks s (record c { at = at })
 
 -- folders that are left make nothing of it
 pub left_item : (n : ℕ) (old mid : Seen) → LeavesAll n old mid → mid.item ≡ old.item
 left_item zero old mid is = ap (λ (x : Seen). x.item) is
 left_item (suc n) old mid (last, all, none, one) = let r = one.returns in ap (λ (x : Seen). x.item) r.stands ∙ left_item n old last all
 
-pub around_at : (told : HistoryFacts) (marks : Marks) (s : FileSystem) (c : SubtreeCopying) (old new : Seen) → (old.item ≡ Next → new.item ≡ Next) → AroundKnows told marks s (record c { at = old }) → AroundKnows told marks s (record c { at = new })
+pub around_at : (told : HistoryFacts) (marks : Marks) (s : FileSystem) (c : SubtreeCopying) (old new : Seen) → (old.item ≡ Next → new.item ≡ Next) → TargetKnows told marks s (record c { at = old }) → TargetKnows told marks s (record c { at = new })
 around_at told marks s c old new stays (inl calm) = inl calm
 around_at told marks s c old new stays (inr (none, but)) = inr (stays none, but)
 

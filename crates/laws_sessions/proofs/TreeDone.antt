@@ -28,13 +28,13 @@ use Rattle.tree_trait.specs.Refusals.{is_folder}
 use Rattle.laws_sessions.proofs.Knowing.{HistoryFacts}
 use Rattle.laws_sessions.proofs.TreeEnds.{IsAtEnd, ended_calm, ended_names, ends_here}
 use Rattle.laws_sessions.proofs.TreeGoing.{LogHas, leaves_has}
-use Rattle.laws_sessions.proofs.TreeKnown.{AroundKnows, TreeKnown}
+use Rattle.laws_sessions.proofs.TreeKnown.{TargetKnows, TreeKnown}
 use Rattle.laws_sessions.proofs.TreeLeads.{log_has}
 
 pub record TreeLeft (told : HistoryFacts) (marks : Marks) (log : CallLog) (c : SubtreeCopying) : Type 0 where
   pub names : (name : List ℕ) (up : Route) → is_own c up ≡ true → name_waits log (name ∷ up) ≡ false
   pub calm : (rest : Route) (i : ℕ) → find (current log) (rest ++ c.top.target) ≡ Some i → (is_clean i log.changes ≡ true) ⊎ ((rest ≡ []) × (is_folder (node (current log) i) ≡ false))
-  pub around : AroundKnows told marks (current log) c
+  pub around : TargetKnows told marks (current log) c
 
 -- what is passed over is no end
 folder_no_end : {A : Type 0} (cause : Cause) (c moved : FolderCopying) (part : Option Route) → folder.Skips cause c (Ended Finished part) moved → A

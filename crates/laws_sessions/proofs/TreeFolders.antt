@@ -26,12 +26,13 @@ use Rattle.job_reports.specs.declared.report.Did.{Did}
 use Rattle.copy_folders.specs.Levels.{Levels, levels_closed, coming, is_around_dirty, level, made_levels, passed_levels, with_copy}
 use Rattle.copy_tree.specs.Standing.{Seen}
 use Rattle.copy_tree.specs.TreeCopySteps.{FolderEnds, FolderMakes, SyncsAround}
+use Rattle.laws_sessions.specs.Doubt.{name_waits}
 use Rattle.laws_sessions.proofs.FilledFolders.{IsNew, folder_opens}
 use Rattle.laws_sessions.proofs.Resting.{IsOfFiles}
 use Rattle.laws_sessions.proofs.OpenFolders.{AroundKnow, InnerKnows, LevelsKnow}
 use Rattle.laws_sessions.proofs.FoldersLie.{AreNested}
 use Rattle.laws_sessions.proofs.QuietRuns.{row_done, row_stops}
-use Rattle.laws_sessions.proofs.TreeKnows.{levels_entered, levels_opened, levels_passed, levels_refused}
+use Rattle.laws_sessions.proofs.TreeKnows.{filled_inner, levels_entered, levels_opened, levels_passed, levels_refused}
 use Rattle.laws_sessions.proofs.TreeRuns.{row_named, row_quiet}
 
 -- the copy of the innermost folder itself goes on, to the same target
@@ -81,15 +82,18 @@ module _ (log now : CallLog) (name : List ℕ) (l : Levels) (known : FolderKnown
   next_stops target at.Done names why path run = none_stops why path run
 
   -- a folder is made in the innermost one, where it was met next
-  module _ (clean : is_around_dirty l.around ≡ false) (n : List ℕ) (off : Among (let p : Levels = passed_levels false l in coming name p.inner.names p.around) n → ⊥) where
+  module _ (clean : is_around_dirty l.around ≡ false) (n : List ℕ) (met : Among (coming name l.inner.names l.around) n) (off : Among (let p : Levels = passed_levels false l in coming name p.inner.names p.around) n → ⊥) where
     abbrev up : Route
     up = l.inner.copy.target
+
+    none_waits : name_waits log (n ∷ up) ≡ false
+    none_waits = (let filling = filled_inner (is_around_dirty l.around) log up (coming name l.inner.names l.around) clean (let levels = known.levels in levels.inner) in filling.calm n met)
 
     made_new : (mode : ℕ) (names : List (List ℕ)) → Performs {A = Unit {0}} log (MakeFolder (n ∷ up) mode) (Ok tt) (Some now) → IsNew now (n ∷ up) names
     made_new mode names h =
         let d = done_call log (MakeFolder (n ∷ up) mode) now h in
         let passes = making_passes (current log) n up mode d.permits in
-        subst (λ (x : CallLog). IsNew x (n ∷ up) names) (sym d.is) (folder_opens log known.tree up (found_node (current log) up) passes.folder n _ passes.none known.files passes.holds refl names)
+        subst (λ (x : CallLog). IsNew x (n ∷ up) names) (sym d.is) (folder_opens log known.tree up (found_node (current log) up) passes.folder n _ passes.none known.files passes.holds refl names none_waits)
 
     made_passed : (mode : ℕ) → Performs {A = Unit {0}} log (MakeFolder (n ∷ up) mode) (Ok tt) (Some now) → LevelsKnow now name (passed_levels false l)
     made_passed mode h = row_named name (passed_levels false l) clean known.nested log now (MakeFolder (n ∷ up) mode) n (Ok tt) known.tree h (λ q ns none. none) off (levels_passed log name false l known.levels)

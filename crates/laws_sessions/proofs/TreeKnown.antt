@@ -64,13 +64,13 @@ abbrev pub LeavesPart : HistoryFacts → FileSystem → Option Route → Type 0
 LeavesPart told s None = told.part ≡ None
 LeavesPart told s (Some part) = IsLeftPart told s part
 
--- in the folder that holds the target no mode waits but that of a folder at the target
+-- no mode waits of what stands at the target, but that of a folder
 abbrev pub IsCalmBut : Marks → FileSystem → Route → Type 0
-IsCalmBut marks s target = (name : List ℕ) (i : ℕ) → (name ∷ folder_of target ≡ target → is_folder (node s i) ≡ false) → find s (name ∷ folder_of target) ≡ Some i → (marks.modes i ≡ None) ⊎ (starts_mount s i ≡ true)
+IsCalmBut marks s target = (i : ℕ) → find s target ≡ Some i → is_folder (node s i) ≡ false → (marks.modes i ≡ None) ⊎ (starts_mount s i ≡ true)
 
--- The history says that none waits there; or the target was given its mode, and nothing is at work any more.
-abbrev pub AroundKnows : HistoryFacts → Marks → FileSystem → SubtreeCopying → Type 0
-AroundKnows told marks s c = (told.calm (folder_of c.top.target) ≡ true) ⊎ ((c.at.item ≡ Next) × IsCalmBut marks s c.top.target)
+-- The history says that the target is calm; or it was given its mode, and nothing is at work any more.
+abbrev pub TargetKnows : HistoryFacts → Marks → FileSystem → SubtreeCopying → Type 0
+TargetKnows told marks s c = (told.calm c.top.target ≡ true) ⊎ ((c.at.item ≡ Next) × IsCalmBut marks s c.top.target)
 
 -- how the copy stands, whatever was changed: a fact of the machine and of the list of dirty folders
 pub record TreeStands (dirty : List Route) (c : SubtreeCopying) : Type 0 where
@@ -86,7 +86,7 @@ abbrev pub LiesOutside : Pair → Type 0
 LiesOutside top = (name : List ℕ) (rest : Route) → top.source ≡ name ∷ rest ++ top.target → ⊥
 
 -- what is known once something was changed: the source doesn't lie below the target; and of the open folders, of the file or link at work, of what
--- lies at and below the target, and of the folder around
+-- lies at and below the target, and of the target itself
 pub record TreeHas (told : HistoryFacts) (marks : Marks) (log : CallLog) (c : SubtreeCopying) : Type 0 where
   pub outside : LiesOutside c.top
   pub levels : LevelsKnow log c.at.name c.at.levels
@@ -97,7 +97,7 @@ pub record TreeHas (told : HistoryFacts) (marks : Marks) (log : CallLog) (c : Su
   pub names : (name : List ℕ) (up : Route) → is_own c up ≡ true → WaitsMarked log c.at name up
   pub modes : OwedModes told.tree c.at
   pub folder : told.folders (folder_of c.top.target) ≡ true
-  pub around : AroundKnows told marks (current log) c
+  pub around : TargetKnows told marks (current log) c
 
 -- so as the laws of the machine want it
 pub copy_known : (told : HistoryFacts) (dirty : List Route) (marks : Marks) (log : CallLog) (c : SubtreeCopying) → TreeStands dirty c → TreeHas told marks log c → CopyKnown log c.at
@@ -144,9 +144,9 @@ module _ (log : CallLog) (marks : Marks) (told : HistoryFacts) where
       by false = none
 
   pub but_settled : (target : Route) → IsCalmBut marks (current log) target → IsCalmBut (settled_marks log marks) (current log) target
-  but_settled target calm name i other at = elim (calm name i other at) [ inl none ↦ inl (no_mode i none) | inr begins ↦ inr begins ]
+  but_settled target calm i at bare = elim (calm i at bare) [ inl none ↦ inl (no_mode i none) | inr begins ↦ inr begins ]
 
-  pub around_settled : (c : SubtreeCopying) → AroundKnows told marks (current log) c → AroundKnows told (settled_marks log marks) (current log) c
+  pub around_settled : (c : SubtreeCopying) → TargetKnows told marks (current log) c → TargetKnows told (settled_marks log marks) (current log) c
   around_settled c (inl calm) = inl calm
   around_settled c (inr (none, calm)) = inr (none, but_settled c.top.target calm)
 
@@ -230,7 +230,7 @@ module _ (told : HistoryFacts) (dirty : List Route) (marks : Marks) (log : CallL
     names = λ name up own. waits_quiet name up log c (IsMarkedIn up t.at.levels.inner t.at.levels.around) (IsMarkedIn up t.at.levels.inner t.at.levels.around) (h.names name up own) none (λ e. e);
     modes = h.modes;
     folder = h.folder;
-    around = subst (λ (s : FileSystem). AroundKnows told marks s t) (sym same) h.around;
+    around = subst (λ (s : FileSystem). TargetKnows told marks s t) (sym same) h.around;
   }
 
   pub tree_quiet : (course : Course) (t : SubtreeCopying) → TreeKnown told dirty marks log course t → TreeKnown told dirty marks after course t
@@ -248,7 +248,7 @@ tree_still told dirty marks log now course t tree (c, is, how) k = subst (λ (l 
     by c (inl none) = subst (λ (x : Change). TreeKnown told dirty marks (with_change log x) course t) (sym none) (tree_quiet told dirty marks log tree Nothing (current_more log Nothing) (λ n g m. refl) (λ i. refl) course t k)
     by c (inr (f, sync)) = subst (λ (x : Change). TreeKnown told dirty marks (with_change log x) course t) (sym sync) (tree_quiet told dirty marks log tree (Syncs f) (current_more log (Syncs f)) (λ n g m. refl) (λ i. refl) course t k)
 
--- Of what a history says it hangs on the tree, the part, the folders on the disk and the calm folders.
+-- Of what a history says it hangs on the tree, the part, the folders on the disk and the calm paths.
 module _ (told other : HistoryFacts) (tree_same : other.tree ≡ told.tree) (part_same : other.part ≡ told.part) (folders_same : other.folders ≡ told.folders) (calm_same : other.calm ≡ told.calm) (dirty : List Route) (marks : Marks) (log : CallLog) where
   item_said : (course : Course) (item : ItemAtWork) → ItemHas told dirty marks (current log) course item → ItemHas other dirty marks (current log) course item
   item_said course Next none = part_same ∙ none
@@ -256,8 +256,8 @@ module _ (told other : HistoryFacts) (tree_same : other.tree ≡ told.tree) (par
   item_said course (Link l) (stands, k) = (stands, link_said told other part_same folders_same marks (current log) dirty l.source l.target l.part k)
   item_said course (Stays part) k = record { part_is = part_same ∙ k.part_is; i = k.i; leads = k.leads; bare = k.bare }
 
-  around_said : (c : SubtreeCopying) → AroundKnows told marks (current log) c → AroundKnows other marks (current log) c
-  around_said c (inl calm) = inl (ap (λ b. b (folder_of c.top.target)) calm_same ∙ calm)
+  around_said : (c : SubtreeCopying) → TargetKnows told marks (current log) c → TargetKnows other marks (current log) c
+  around_said c (inl calm) = inl (ap (λ b. b c.top.target) calm_same ∙ calm)
   around_said c (inr but) = inr but
 
   has_said : (c : SubtreeCopying) → TreeHas told marks log c → TreeHas other marks log c

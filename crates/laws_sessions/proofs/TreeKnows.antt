@@ -19,16 +19,18 @@ use Rattle.laws_sessions.proofs.FilledCalls.{MayFill, filling_call}
 use Rattle.laws_sessions.proofs.FilledFolders.{IsFilling, IsNew, filling_fewer, filling_quiet, new_quiet, opens_synced}
 use Rattle.laws_sessions.proofs.OpenFolders.{AroundKnow, InnerKnows, LevelsKnow}
 use Rattle.laws_sessions.proofs.Refused.{refused_change}
+use Rattle.laws_sessions.proofs.Resting.{name_sure}
+use Rattle.laws_sessions.proofs.WaitsAlone.{alone_calm}
 
 new_of : (log : CallLog) (up : Route) (names : List (List ℕ)) → IsFilling log up names → IsNew log up names
-new_of log up names filling = let firm = filling.firm in record { stands = firm.stands; calm = filling.calm; apart = filling.apart }
+new_of log up names filling = let firm = filling.firm in record { stands = firm.stands; calm = filling.calm; alone = alone_calm log up (name_sure log up firm.sure) }
 
 inner_of : (b : Bool) (log : CallLog) (up : Route) (names : List (List ℕ)) → IsFilling log up names → InnerKnows b log up names
 inner_of true log up names filling = new_of log up names filling
 inner_of false log up names filling = filling
 
 inner_fewer : (b : Bool) (log : CallLog) (up : Route) (names fewer : List (List ℕ)) → ((k : List ℕ) → Among fewer k → Among names k) → InnerKnows b log up names → InnerKnows b log up fewer
-inner_fewer true log up names fewer less new = record { stands = new.stands; calm = λ k among. new.calm k (less k among); apart = new.apart }
+inner_fewer true log up names fewer less new = record { stands = new.stands; calm = λ k among. new.calm k (less k among); alone = new.alone }
 inner_fewer false log up names fewer less filling = filling_fewer log up names fewer less filling
 
 among_later : (names : List (List ℕ)) (k : List ℕ) → Among (drop 1 names) k → Among names k

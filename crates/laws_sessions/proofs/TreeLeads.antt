@@ -1,6 +1,6 @@
 -- What a step of a copy of folders comes to: what is known then of the copy, where it is known of its part and of the folder around. Its first change is
 -- made where nothing is owed, and there all is known as it begins.
-use Rattle.std.proofs.Common.{◌≡◌, refl, ◌⊎◌, ℕ, Bool, true, false, List, [], ◌∷◌, ◌++◌, sym, ◌∙◌, ap, subst, inl, inr, Option, Some, None}
+use Rattle.std.proofs.Common.{◌≡◌, refl, ◌⊎◌, ℕ, Bool, true, false, List, [], ◌∷◌, ◌++◌, sym, ◌∙◌, ap, subst, inl, inr, Some, None}
 use Rattle.std.specs.Option.{option_map_or}
 use Rattle.std.proofs.lemmas.Bool.{both_ways, or_cases}
 use Rattle.mc_text.specs.Routes.{Route, is_prefix, same_path}
@@ -40,10 +40,9 @@ use Rattle.laws_sessions.proofs.OpenFolders.{AroundKnow, InnerKnows, LevelsKnow}
 use Rattle.laws_sessions.proofs.OwedModes.{OwedModes}
 use Rattle.laws_sessions.proofs.PartTexts.{TextKnown}
 use Rattle.laws_sessions.proofs.TreeGoing.{LogHas, log_goes, steps_stand}
-use Rattle.laws_sessions.proofs.TreeKnown.{AroundKnows, ItemHas, TreeHas, TreeKnown, TreeStands, copy_known, LiesOutside}
-use Rattle.laws_sessions.proofs.Resting.{unjoined_below}
-use Rattle.laws_sessions.proofs.Restless.{IsUnjoined}
-use Rattle.laws_sessions.proofs.Untouched.{NoneOn, none_joint, none_on, none_over, none_waits}
+use Rattle.laws_sessions.proofs.TreeKnown.{ItemHas, TargetKnows, TreeHas, TreeKnown, TreeStands, copy_known, LiesOutside}
+use Rattle.laws_sessions.proofs.Untouched.{NoneOn, none_on, none_over, none_waits}
+use Rattle.laws_sessions.proofs.WaitsAlone.{alone_calm}
 
 -- what is known of the log once something was changed
 pub log_has : (told : HistoryFacts) (dirty : List Route) (marks : Marks) (log : CallLog) (c : SubtreeCopying) → TreeStands dirty c → TreeHas told marks log c → LogHas c.top log c.at
@@ -94,17 +93,6 @@ module _ (told : HistoryFacts) (dirty : List Route) (marks : Marks) (log : CallL
       none_in [] = none_at open_to
       none_in (more ∷ rest) = ap (λ o. option_map_or (λ g. is_pending g name log.changes) o false) (none_below_open log kept.known.guarded.tree c.top.target open_to more rest)
 
-  -- nor does a renaming for one of those and another folder
-  apart_own : (q : Route) → is_of up c.top.target q ≡ true → IsUnjoined log q
-  apart_own q own = elim (or_cases (same_path q up) (is_prefix c.top.target q) own) [
-    | inl here ↦ subst (IsUnjoined log) (sym (same_path-true q up here)) (none_joint told dirty marks log up kept.known none)
-    | inr within ↦ (let way = prefix_way c.top.target q within in subst (IsUnjoined log) (sym way.1) (unjoined_below log kept.known.guarded.tree kept.known.files c.top.target (bare_there open_to) way.0))
-  ]
-    where
-      bare_there : (find (current log) c.top.target ≡ None) ⊎ StandsBare (current log) c.top.target → (i : ℕ) → find (current log) c.top.target ≡ Some i → is_folder (node (current log) i) ≡ false
-      bare_there (inl free) i there = absurd (let e : (let o : Option ℕ = None in o) ≡ Some i = sym free ∙ there in let x : ⊥ = cc in x)
-      bare_there (inr b) i there = subst (λ j. is_folder (node (current log) j) ≡ false) (let e : Some b.i ≡ Some i = sym b.leads ∙ there in cc) b.bare
-
   -- what stands below the target is calm, since nothing does, and so is what stands there, if nothing does
   calm_first : (rest : Route) → IsCalmFrom log c.at c.top.target rest
   calm_first (more ∷ rest) = inl (let law = calm_law in law.free log c.at (more ∷ rest ++ c.top.target) (none_below_open log kept.known.guarded.tree c.top.target open_to more rest))
@@ -127,7 +115,7 @@ module _ (told : HistoryFacts) (dirty : List Route) (marks : Marks) (log : CallL
         text = subst (λ i. TextKnown log i) (sym outside.none) tt;
         whole = subst (λ i. PartCalm log i) (sym outside.none) tt;
         calm = calm_first;
-        names = λ name q own. (λ waits. absurd (both_ways _ (none_own name q own) waits), apart_own q own);
+        names = λ name q own. (λ waits. absurd (both_ways _ (none_own name q own) waits), alone_calm log (name ∷ q) (none_own name q own));
       }
 
 module _ (told : HistoryFacts) (dirty dirty_after : List Route) (marks : Marks) (log now : CallLog) (kept : IsKept told dirty marks log) (c new : SubtreeCopying) (did : Did) (free : Route → Bool) (replies : Replies) (count f0 f1 : ℕ)
@@ -137,7 +125,7 @@ module _ (told : HistoryFacts) (dirty dirty_after : List Route) (marks : Marks) 
 
   -- once something was changed
   pub tree_then : LiesOutside c.top → LogHas c.top log c.at → (after : HistoryFacts) (course : Course) (m : Marks) → OwedModes after.tree new.at → after.folders (folder_of c.top.target) ≡ true → ItemHas after dirty_after m (current now) course new.at.item
-      → AroundKnows after m (current now) new → TreeKnown after dirty_after m now course new
+      → TargetKnows after m (current now) new → TreeKnown after dirty_after m now course new
   tree_then outside has after course m modes folder part around =
       let has_now = log_goes free replies c new did count dirty dirty_after log now f0 f1 s kept.known.guarded.tree kept.known.files has in
       let copy = has_now.copy in

@@ -2,7 +2,7 @@
 use Rattle.std.proofs.Common.{◌≡◌, ℕ, Bool, true, false, ◌||◌, List, [], ◌∷◌, refl, sym, ◌∙◌, ap, subst, inl, inr, Option, Some, None, arith}
 use Rattle.std.specs.Prelude.{pos}
 use Rattle.std.proofs.lemmas.Bool.{both_ways, false_from_ne_true, or_cases, or_left, or_right, or_parts}
-use Rattle.mc_text.specs.Routes.{Route, same_path}
+use Rattle.mc_text.specs.Routes.{Route, is_prefix, same_path}
 use Rattle.mc_text.specs.declared.kind.Kind.TheVariants as kind
 use Rattle.tree_trait.specs.declared.file_system.Node.{Node}
 use Rattle.tree_trait.specs.Calls.{MakeFolder}
@@ -32,17 +32,16 @@ use Rattle.copy_job.specs.Marks.{folder_worked, is_dirty_after, is_left_dirty, w
 use Rattle.copy_job.specs.Standing.{SubtreeCopying}
 use Rattle.copy_move.specs.declared.run.Course.TheVariants.{GoesOn}
 use Rattle.copy_move.specs.declared.work.Work.TheVariants.{Copy}
-use Rattle.laws_sessions.proofs.OwnFolders.{may_change}
 use Rattle.laws_sessions.proofs.DeletionSteps.{joined_holds, joined_more}
 use Rattle.laws_sessions.proofs.FilledFolders.{IsFilling, met_untouched}
 use Rattle.laws_sessions.proofs.Knowing.{IsKept, IsKnown, HistoryFacts, nowhere, settled_marks}
+use Rattle.laws_sessions.proofs.PathsBelow.{is_below}
 use Rattle.laws_sessions.proofs.Resting.{folder_at, folder_at_of}
 use Rattle.laws_sessions.proofs.Stepped.{comes_one, said_after}
-use Rattle.laws_sessions.proofs.StepsKnown.{among_next}
 use Rattle.laws_sessions.proofs.TreeBefore.{Before, Result, Then, idle_quiet}
 use Rattle.laws_sessions.proofs.TreeBegins.{here_moved, within, within_kept, MayChange, Meets, may_change_now, worked_filled}
 use Rattle.laws_sessions.proofs.TreeKnown.{ItemHas}
-use Rattle.laws_sessions.proofs.TreeSteps.{IsNextOf, next_of}
+use Rattle.laws_sessions.proofs.TreeSteps.{IsNextOf, among_next, next_of}
 use Rattle.laws_sessions.proofs.TreeOwed.{free_owes}
 use Rattle.laws_sessions.proofs.TreeListed.{list_joins, list_stays, no_part}
 use Rattle.copy_tree.specs.Taking.{IsTaken}
@@ -218,7 +217,7 @@ module _ (told : HistoryFacts) (dirty dirty_after : List Route) (marks : Marks) 
         doubted = λ n. or_right _ _ (same_path-self made_path);
         spared = λ n p off. or_parts (told.written n p) (same_path p made_path) off;
         modes = λ p h. h;
-        calm = λ p there. elim (or_cases (may_change (Copies c.top.source c.top.target) p) (told.calm p) there) [ inl own ↦ inr (may.calm p own) | inr before ↦ inl (or_right _ _ before) ];
+        calm = λ p there. elim (or_cases (is_prefix c.top.target p) (told.calm p) there) [ inl own ↦ inr (may.calm p own) | inr before ↦ inl (or_right _ _ before) ];
         new_mode = kept.modes (new_node log) (kept.known.files.unborn (new_node log) (omega arith));
         folders = λ p there. elim (or_cases (same_path p (folder_of c.top.target) || same_path p up) (told.folders p) there) [
           | inl first ↦ elim (or_cases (same_path p (folder_of c.top.target)) (same_path p up) first) [
@@ -236,7 +235,7 @@ module _ (told : HistoryFacts) (dirty dirty_after : List Route) (marks : Marks) 
           (comes_one told after dirty dirty_after marks (marks_born marks (new_node log)) log now makes (Then told dirty_after log now c (Made made_path) new) kept then
           (subst (λ (l : CallLog). IsKnown after dirty_after (marks_born marks (new_node log)) l) (sym then) known_then) (record {
             part = subst (λ i. ItemHas after dirty_after (settled_marks now (marks_born marks (new_node log))) (current now) GoesOn i) (sym (item_none moved stands)) part_none;
-            around = λ some. inl (or_left _ _ (or_left _ _ (same_path-self (folder_of c.top.target))));
+            around = λ some. inl (or_left _ _ (is_below c.top.target []));
             had = λ some. (may.outside, may.has);
             modes = λ h. free_owes told.tree after.tree made_path (λ p off. put_off told.tree made_path (Some what) p off) (ap (λ (s : Spot). s.value) nothing_told) new.levels.inner new.levels.around h;
           })))

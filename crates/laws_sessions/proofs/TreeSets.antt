@@ -3,13 +3,11 @@ use Rattle.std.proofs.Common.{◌≡◌, ℕ, Bool, true, false, not, ◌&&◌, 
 use Rattle.std.specs.Prelude.{unwrap_or}
 use Rattle.std.specs.Option.{option_map}
 use Rattle.std.proofs.lemmas.Bool.{both_ways, false≢true, or_cases, or_left, or_right, or_parts}
-use Rattle.std.proofs.lemmas.List.{length-append}
 use Rattle.mc_text.specs.Routes.{Route, same_path}
 use Rattle.tree_trait.specs.Calls.{SetMode}
 use Rattle.tree_trait.specs.Change.{Change, Sets, CallLog, current, with_change}
 use Rattle.tree_trait.specs.CrashImages.{Among}
 use Rattle.tree_trait.specs.FileSystem.{Spot, Value, find, node, value}
-use Rattle.tree_trait.proofs.Finding.{find-once}
 use Rattle.tree_trait.proofs.Visible.{same_path-self, same_path-true}
 use Rattle.laws_crash.specs.Guarded.{Marks, with_mode}
 use Rattle.laws_crash.proofs.Guarding.{same_quiet, found_there}
@@ -56,7 +54,7 @@ use Rattle.laws_sessions.proofs.SettingModes.{IsMarked, SetsMode, folder_once, m
 use Rattle.laws_sessions.proofs.Stepped.{comes_one, said_after}
 use Rattle.laws_sessions.proofs.TreeBefore.{Before, Result, Then, had_begun}
 use Rattle.laws_sessions.proofs.TreeGoing.{LogHas, leaves_has}
-use Rattle.laws_sessions.proofs.TreeKnown.{AroundKnows, IsCalmBut, ItemHas, TreeHas, but_settled}
+use Rattle.laws_sessions.proofs.TreeKnown.{IsCalmBut, ItemHas, TargetKnows, TreeHas, but_settled}
 use Rattle.laws_sessions.proofs.TreeKnows.{filled_inner}
 use Rattle.laws_sessions.proofs.TreeLeads.{log_has}
 use Rattle.laws_sessions.proofs.TreeOwed.{lower_owes}
@@ -75,19 +73,6 @@ unset_yet (at.Close (Some owed)) names mode is = refl
 unset_yet (at.Close None) names mode is = absurd (let f : ⊥ = cc in f)
 unset_yet (at.Make made) names mode is = refl
 unset_yet at.Done names mode is = refl
-
--- what stands beside the target, at or below it, is the target
-beside_is : (rest target path : Route) (name first : List ℕ) → first ∷ folder_of target ≡ target → path ≡ rest ++ target → name ∷ folder_of target ≡ path → path ≡ target
-beside_is rest target path name first target_is below beside =
-    let a = ap (λ (q : Route). length q) target_is in
-    let b = ap (λ (q : Route). length q) below in
-    let d = ap (λ (q : Route). length q) beside in
-    let e = length-append rest target in
-    by rest (omega (arith, a, b, d, e)) below
-  where
-    by : (rest : Route) → length rest ≡ 0 → path ≡ rest ++ target → path ≡ target
-    by [] none is = is
-    by (more ∷ rest) none is = absurd (let f : ⊥ = cc in f)
 
 -- An open folder that was made: it lies below the target, and the folder that holds it is on the disk.
 pub record IsDeep (log : CallLog) (top : Pair) (inner : Level) : Type 0 where
@@ -206,8 +191,8 @@ module _ (told : HistoryFacts) (dirty dirty_after : List Route) (marks : Marks) 
       modes = or_right _ _ (same_path-self up);
       modes_more = λ p h. or_left _ _ h;
       calm = λ p there.
-          let both = both_so (told.calm p) (same_path p (folder_of up)) there in
-          (kept.known.calm p both.0, λ same. both_ways _ both.1 (subst (λ q. same_path q (folder_of up) ≡ true) (sym same) (same_path-self (folder_of up))));
+          let both = both_so (told.calm p) (same_path p up) there in
+          (kept.known.calm p both.0, λ same. both_ways _ both.1 (subst (λ q. same_path q up ≡ true) (sym same) (same_path-self up)));
     }
 
     abbrev change : Change
@@ -224,39 +209,37 @@ module _ (told : HistoryFacts) (dirty dirty_after : List Route) (marks : Marks) 
     abbrev m : Marks
     m = new_marks.0
 
-    -- of the other things in the folder around no mode waits
+    -- of what stands at the target no mode waits, but that of a folder
     but_before : IsCalmBut marks (current log) top.target
-    but_before = elim (b.around some) [ inl calm ↦ (λ name j other at. let still = kept.known.calm (folder_of top.target) calm in still.modes name j at) | inr but ↦ but.1 ]
+    but_before = elim (b.around some) [ inl calm ↦ (λ j at bare. let still = kept.known.calm top.target calm in still.mode j at) | inr but ↦ but.1 ]
 
     but_then : IsCalmBut m (current (with_change log change)) top.target
-    but_then name j other at = elim (but_before name j (λ is. sym still_kind ∙ other is) here) [
+    but_then j at bare = elim (but_before j here (sym still_kind ∙ bare)) [
       | inl still ↦ inl (still_none told after dirty dirty_after marks log up i mode kept sets m new_marks.1 j apart still)
       | inr begins ↦ inr (starts_same log change j ∙ begins)
     ]
       where
-        here : find (current log) (name ∷ folder_of top.target) ≡ Some j
-        here = sym (same_quiet log change (λ g k. refl) (name ∷ folder_of top.target)) ∙ at
+        here : find (current log) top.target ≡ Some j
+        here = sym (same_quiet log change (λ g k. refl) top.target) ∙ at
 
         still_kind : is_folder (node (current (with_change log change)) j) ≡ is_folder (node (current log) j)
-        still_kind = kind_same log change j (found_there (current log) kept.known.guarded.tree (name ∷ folder_of top.target) j here)
+        still_kind = kind_same log change j (found_there (current log) kept.known.guarded.tree top.target j here)
 
         apart : j ≡ i → ⊥
-        apart same =
-            let is : name ∷ folder_of top.target ≡ up = find-once (current log) kept.known.guarded.tree (name ∷ folder_of top.target) up i (here ∙ ap (λ k. Some k) same) stands.at in
-            both_ways _ (sym still_kind ∙ other (is ∙ beside_is moved.rest top.target up name mid.name in_place.name moved.to is)) (subst (λ k. is_folder (node (current log) k) ≡ true) (sym same) stands.folder)
+        apart same = both_ways _ (sym still_kind ∙ bare) (subst (λ k. is_folder (node (current log) k) ≡ true) (sym same) stands.folder)
 
-    around_then : AroundKnows after (settled_marks now m) (current now) (record c { at = new })
+    around_then : TargetKnows after (settled_marks now m) (current now) (record c { at = new })
     around_then = elim (b.around some) [
-      | inl calm ↦ by calm (same_path (folder_of top.target) (folder_of up)) refl
+      | inl calm ↦ by calm (same_path top.target up) refl
       | inr but ↦ inr (item, but_now)
     ]
       where
         but_now : IsCalmBut (settled_marks now m) (current now) top.target
         but_now = but_settled now m told top.target (subst (λ (l : CallLog). IsCalmBut m (current l) top.target) (sym now_is) but_then)
 
-        by : told.calm (folder_of top.target) ≡ true → (x : Bool) → same_path (folder_of top.target) (folder_of up) ≡ x → AroundKnows after (settled_marks now m) (current now) (record c { at = new })
+        by : told.calm top.target ≡ true → (x : Bool) → same_path top.target up ≡ x → TargetKnows after (settled_marks now m) (current now) (record c { at = new })
         by calm true same = inr (item, but_now)
-        by calm false off = inl (ap (λ x. x && not (same_path (folder_of top.target) (folder_of up))) calm ∙ ap not off)
+        by calm false off = inl (ap (λ x. x && not (same_path top.target up)) calm ∙ ap not off)
 
     -- the folders around owe what they owed: what is given its mode is the source of none of them
     owed_then : OwedModes told.tree new → OwedModes after.tree new

@@ -47,7 +47,7 @@ use Rattle.laws_sessions.proofs.ListSteps.{list_law}
 use Rattle.laws_sessions.proofs.NameLaws.{names_law}
 use Rattle.laws_sessions.proofs.SetFolders.{owed_mode_law}
 use Rattle.laws_sessions.proofs.TextSteps.{text_law}
-use Rattle.laws_sessions.proofs.TreeKnown.{AroundKnows, ItemHas, TreeGoes, TreeHas, TreeKnown, TreeStands, copy_known, is_over}
+use Rattle.laws_sessions.proofs.TreeKnown.{ItemHas, TargetKnows, TreeGoes, TreeHas, TreeKnown, TreeStands, copy_known, is_over}
 use Rattle.laws_sessions.proofs.TreeSkips.{retries_laid, skip_law, skips_laid}
 
 -- A skip makes nothing of what isn't at work, and leaves how far the copy is.
@@ -165,7 +165,7 @@ module _ (told : HistoryFacts) (dirty : List Route) (marks : Marks) (log : CallL
       listed = (let law = list_law in law.skip cause old new did dirty s h.listed);
     }
 
-    skips_around : AroundKnows told marks (current log) old → AroundKnows told marks (current log) new
+    skips_around : TargetKnows told marks (current log) old → TargetKnows told marks (current log) new
     skips_around (inl calm) = inl calm
     skips_around (inr (none, calm)) = inr (skips_none cause old.at at did none skips, calm)
 
@@ -225,7 +225,7 @@ module _ (told : HistoryFacts) (dirty : List Route) (marks : Marks) (log : CallL
       listed = (let law = list_law in law.retry c dirty h.listed);
     }
 
-    retries_around : AroundKnows told marks (current log) c → AroundKnows told marks (current log) again
+    retries_around : TargetKnows told marks (current log) c → TargetKnows told marks (current log) again
     retries_around (inl calm) = inl calm
     retries_around (inr (none, calm)) = inr (ap (λ i. (let n : Seen = machine.retried_at i c.at in n.item)) none ∙ none, calm)
 

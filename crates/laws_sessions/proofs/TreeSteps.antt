@@ -1,5 +1,8 @@
 -- A step in the copy of a tree keeps what is known of the folders that are open.
 use Rattle.std.proofs.Common.{◌≡◌, ℕ, Bool, false, List, [], ◌∷◌, refl, sym, ◌∙◌, ap, subst, inl, inr, Some}
+use Rattle.std.specs.Prelude.{if◌then◌else◌, map}
+use Rattle.tree_walk.specs.Places.{is_empty}
+use Rattle.copy_folders.specs.declared.level.Level.{Level}
 use Rattle.mc_text.specs.Routes.{Route}
 use Rattle.tree_trait.specs.Change.{CallLog, current}
 use Rattle.tree_trait.specs.CrashImages.{Among}
@@ -23,7 +26,7 @@ use Rattle.copy_tree.specs.declared.due.Due.TheVariants.{Thing}
 use Rattle.copy_tree.specs.declared.item.ItemAtWork.{ItemAtWork}
 use Rattle.copy_tree.specs.declared.item.ItemAtWork.TheVariants.{Next, File, Link, Stays}
 use Rattle.job_reports.specs.declared.report.Did.{Did}
-use Rattle.copy_folders.specs.Levels.{levels_closed, is_around_dirty}
+use Rattle.copy_folders.specs.Levels.{levels_closed, is_around_dirty, coming}
 use Rattle.copy_tree.specs.Parts.{IsPartPlace, ahead}
 use Rattle.copy_tree.specs.Standing.{Seen, due_at, pair_of, target_name}
 use Rattle.copy_tree.specs.Progress.{link_progress, progress}
@@ -39,6 +42,14 @@ use Rattle.laws_sessions.proofs.TreeFiles.{FileKnown, file_step}
 use Rattle.laws_sessions.proofs.TreeFolders.{closed_levels, folder_ends, folder_makes, syncs_around}
 use Rattle.laws_sessions.proofs.TreeKnows.{levels_passed}
 use Rattle.laws_sessions.proofs.TreeLinks.{LinkKnown, link_step}
+
+-- the name that is met next, as it is at its target
+pub among_next : (c : Seen) (name : List ℕ) (names : List (List ℕ)) → c.levels.inner.names.names ≡ name ∷ names → Among (ahead c) (target_name c name)
+among_next c name names is = by c.levels.around
+  where
+    by : (around : List Level) → Among (coming c.name c.levels.inner.names around) (if◌then◌else◌ (is_empty around) c.name name)
+    by [] = subst (λ xs. Among (map (λ (met : List ℕ). c.name) xs) c.name) (sym is) (inl refl)
+    by (outer ∷ around) = subst (λ xs. Among xs name) (sym is) (inl refl)
 
 -- What is known of a tree's copy as a step begins.
 pub record StepKnown (log : CallLog) (c : Seen) : Type 0 where
@@ -144,7 +155,7 @@ module _ (free : Route → Bool) (replies : Replies) (old new : Seen) (did : Did
   takes_folder : is_around_dirty old.levels.around ≡ false → TakesFolder replies old new did (Some log) (Some now) → Stay
   takes_folder clean t =
       let next = next_of old old.levels.inner.names.names t.pair t.next in
-      folder_makes log now old.name old.levels (record { tree = known.tree; files = known.files; nested = known.nested; levels = known.levels }) clean (target_name old next.name) (known.once next.name next.rest next.names_are)
+      folder_makes log now old.name old.levels (record { tree = known.tree; files = known.files; nested = known.nested; levels = known.levels }) clean (target_name old next.name) (among_next old next.name next.rest next.names_are) (known.once next.name next.rest next.names_are)
       t.pair t.names t.mode old new did refl next.target_is t.works
 
   takes_next : is_around_dirty old.levels.around ≡ false → TakesNext Unclaimed replies old new did (Some log) (Some now) → Stay

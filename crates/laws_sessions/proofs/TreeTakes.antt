@@ -1,14 +1,12 @@
 -- Where a copy of folders begins a file: its part is made, or a trouble comes before.
-use Rattle.std.proofs.Common.{◌≡◌, ◌⊎◌, Bool, true, false, List, ◌∷◌, refl, sym, ◌∙◌, ap, subst, inl, inr, Some, None}
+use Rattle.std.proofs.Common.{◌≡◌, ◌⊎◌, Bool, true, false, List, ◌∷◌, refl, sym, ◌∙◌, ap, subst, inl, inr, Some, None, []}
 use Rattle.std.proofs.lemmas.Bool.{or_left}
-use Rattle.mc_text.specs.Routes.{Route}
+use Rattle.mc_text.specs.Routes.{Route, is_prefix}
 use Rattle.tree_trait.specs.CrashImages.{Among}
 use Rattle.tree_trait.specs.Change.{Nothing, CallLog, current, found_node, with_change}
-use Rattle.tree_trait.proofs.Visible.{same_path-self}
 use Rattle.tree_trait.proofs.Walking.{stat-found}
 use Rattle.laws_crash.specs.Guarded.{Marks}
 use Rattle.job_answers.specs.declared.replies.Replies.{Replies}
-use Rattle.job_reports.specs.Jobs.{Copies}
 use Rattle.job_reports.specs.Paths.{folder_of}
 use Rattle.job_reports.specs.declared.report.Did.{Did}
 use Rattle.job_reports.specs.declared.report.Did.TheVariants.{Began, Chunk, Placed, Removed, Made, Set, Kept, Skipped, Cleaned, Barrier, Asked, Merges, Moved, Troubled, Ended}
@@ -30,7 +28,6 @@ use Rattle.copy_job.specs.Marks.{folder_worked, is_dirty_after, is_left_dirty, w
 use Rattle.copy_job.specs.Standing.{SubtreeCopying}
 use Rattle.copy_move.specs.declared.run.Course.TheVariants.{GoesOn}
 use Rattle.copy_move.specs.declared.work.Work.TheVariants.{Copy}
-use Rattle.laws_sessions.proofs.OwnFolders.{may_change}
 use Rattle.laws_sessions.proofs.BareTargets.{free_or_bare}
 use Rattle.laws_sessions.proofs.FileMoves.{MoveCalls, taken_moves}
 use Rattle.laws_sessions.proofs.Calming.{stopped_is}
@@ -38,16 +35,16 @@ use Rattle.laws_sessions.proofs.CopySteps.{copy_begins}
 use Rattle.laws_sessions.proofs.DeletionSteps.{joined_holds, joined_more}
 use Rattle.laws_sessions.proofs.Filling.{making_stands}
 use Rattle.laws_sessions.proofs.FilledFolders.{IsFilling, met_found}
-use Rattle.laws_sessions.proofs.Knowing.{IsKept, HistoryFacts}
+use Rattle.laws_sessions.proofs.Knowing.{HasCalmMode, IsKept, HistoryFacts}
 use Rattle.laws_sessions.proofs.KnownParts.{FileKnows, HasName}
+use Rattle.laws_sessions.proofs.PathsBelow.{is_below}
 use Rattle.laws_sessions.proofs.Resting.{IsSureFolder}
 use Rattle.laws_sessions.proofs.Stepped.{StepRan, comes_map, said_after}
-use Rattle.laws_sessions.proofs.StepsKnown.{among_next}
 use Rattle.laws_sessions.proofs.TreeBefore.{Before, Result, Then, idle_quiet}
-use Rattle.laws_sessions.proofs.TreeBegins.{MayChange, Meets, may_change_now, worked_filled, worked_own}
+use Rattle.laws_sessions.proofs.TreeBegins.{MayChange, Meets, may_change_now, met_own, worked_filled}
 use Rattle.laws_sessions.proofs.TreeKnown.{ItemHas}
 use Rattle.laws_sessions.proofs.TreeSkipped.{file_has}
-use Rattle.laws_sessions.proofs.TreeSteps.{IsNextOf, next_of}
+use Rattle.laws_sessions.proofs.TreeSteps.{IsNextOf, among_next, next_of}
 use Rattle.laws_sessions.proofs.Untouched.{IsAsFound, IsBare}
 use Rattle.laws_sessions.proofs.TreeListed.{list_joins, list_stays, no_part, noted_clean, noted_dirty}
 use Rattle.copy_file.specs.declared.stage.Stage.TheVariants.{Fill}
@@ -111,8 +108,8 @@ module _ (told : HistoryFacts) (dirty dirty_after : List Route) (marks : Marks) 
       may : MayChange marks log c mid
       may = may_change_now told dirty marks log kept c mid b.n b.leaves b.stands none t.pair t.next meets b.begun b.owed
 
-      own : may_change (Copies c.top.source c.top.target) up ≡ true
-      own = worked_own told dirty marks log kept c mid b.n b.leaves b.stands none t.pair t.next meets
+      own : is_prefix c.top.target f.target ≡ true
+      own = met_own told dirty marks log kept c mid b.n b.leaves b.stands none t.pair t.next meets
 
       filling : IsFilling log up (ahead mid)
       filling = worked_filled told dirty marks log kept c mid b.n b.leaves b.stands none t.pair t.next meets clean may.here
@@ -126,7 +123,7 @@ module _ (told : HistoryFacts) (dirty dirty_after : List Route) (marks : Marks) 
           let ready = calls.0 in
           let bare : IsBare (current log) f.target = ready.bare in
           subst (λ q. IsAsFound marks (current log) q) (sym met.target_is)
-          (met_found told dirty marks log up (ahead mid) (target_name mid met.name) kept filling (among_next mid met.name met.rest met.names_are) (subst (λ q. IsBare (current log) q) met.target_is bare) (let still = may.calm up own in still.modes))
+          (met_found told dirty marks log up (ahead mid) (target_name mid met.name) kept filling (among_next mid met.name met.rest met.names_are) (subst (λ q. IsBare (current log) q) met.target_is bare) (subst (HasCalmMode marks (current log)) met.target_is (let still = may.calm f.target own in still.mode)))
 
       name : HasName f.target
       name = record { name = target_name mid met.name; is = met.target_is ∙ ap (λ q. (let r : Route = target_name mid met.name ∷ q in r)) (sym here) }
@@ -145,8 +142,8 @@ module _ (told : HistoryFacts) (dirty dirty_after : List Route) (marks : Marks) 
       after = said_after now (Began part) (Copy c) told
 
       come : StepRan told after dirty_after log now (λ m. FileKnows after dirty_after m (current now) GoesOn moved)
-      come = copy_begins told dirty dirty_after marks log now kept f moved part (IsPartPlace free mid) (folder_of c.top.target) (may_change (Copies c.top.source c.top.target)) name part_none tells calls.0 (calls.1, calls.2) found_so
-          (subst (IsSureFolder log) (sym here) firm) may.firm (subst (λ q. may_change (Copies c.top.source c.top.target) q ≡ true) (sym here) own) may.calm
+      come = copy_begins told dirty dirty_after marks log now kept f moved part (IsPartPlace free mid) (folder_of c.top.target) (is_prefix c.top.target) name part_none tells calls.0 (calls.1, calls.2) found_so
+          (subst (IsSureFolder log) (sym here) firm) may.firm may.calm
           (subst (λ xs. Among xs (folder_of f.target)) (sym joins) (subst (λ q. Among (joined_folders q dirty) (folder_of f.target)) here (joined_holds (folder_of f.target) dirty))) (λ q among. subst (λ xs. Among xs q) (sym joins) (joined_more up q dirty among))
 
       pub file_begins : Comes_to did new
@@ -156,7 +153,7 @@ module _ (told : HistoryFacts) (dirty dirty_after : List Route) (marks : Marks) 
           (λ m kept_then known. record {
             part = subst (λ (x : Seen). ItemHas after dirty_after m (current now) GoesOn x.item) (sym stands)
                 (file_has after dirty_after m (current now) GoesOn moved (noted_copy did (file.is_dirty moved.folder) mid) moved.stage refl known);
-            around = λ some. inl (or_left _ _ (or_left _ _ (same_path-self (folder_of c.top.target))));
+            around = λ some. inl (or_left _ _ (is_below c.top.target []));
             had = λ some. (may.outside, may.has);
             modes = λ h. h;
           }) come)

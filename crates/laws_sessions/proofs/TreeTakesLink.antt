@@ -1,8 +1,8 @@
 -- Where a copy of folders begins a link: its part is made whole, or a trouble comes before.
-use Rattle.std.proofs.Common.{◌≡◌, ◌⊎◌, ℕ, Bool, true, false, List, ◌∷◌, refl, sym, ◌∙◌, ap, subst, inl, inr, Some, None, arith}
+use Rattle.std.proofs.Common.{◌≡◌, ◌⊎◌, ℕ, Bool, true, false, List, ◌∷◌, refl, sym, ◌∙◌, ap, subst, inl, inr, Some, None, arith, []}
 use Rattle.std.specs.Prelude.{pos}
 use Rattle.std.proofs.lemmas.Bool.{false_from_ne_true, or_left, or_right}
-use Rattle.mc_text.specs.Routes.{Route}
+use Rattle.mc_text.specs.Routes.{Route, is_prefix}
 use Rattle.mc_text.specs.declared.kind.Kind.TheVariants as kind
 use Rattle.tree_trait.specs.declared.file_system.Node.{Node}
 use Rattle.tree_trait.specs.Calls.{MakeLink}
@@ -15,7 +15,6 @@ use Rattle.laws_crash.specs.Guarded.{Marks}
 use Rattle.laws_crash.proofs.Guarding.{found_there}
 use Rattle.laws_crash.proofs.Syncing.{unaltered_law}
 use Rattle.job_answers.specs.declared.replies.Replies.{Replies}
-use Rattle.job_reports.specs.Jobs.{Copies}
 use Rattle.job_reports.specs.Paths.{folder_of}
 use Rattle.job_reports.specs.declared.report.Did.{Did}
 use Rattle.job_reports.specs.declared.report.Did.TheVariants.{Began, Chunk, Placed, Removed, Made, Set, Kept, Skipped, Cleaned, Barrier, Asked, Merges, Moved, Troubled, Ended}
@@ -37,25 +36,24 @@ use Rattle.copy_job.specs.Marks.{folder_worked, is_dirty_after, is_left_dirty, w
 use Rattle.copy_job.specs.Standing.{SubtreeCopying}
 use Rattle.copy_move.specs.declared.run.Course.TheVariants.{GoesOn}
 use Rattle.copy_move.specs.declared.work.Work.TheVariants.{Copy}
-use Rattle.laws_sessions.proofs.OwnFolders.{may_change}
 use Rattle.laws_sessions.proofs.OpenTargets.{taken_bare}
 use Rattle.laws_sessions.proofs.BareTargets.{free_or_bare}
 use Rattle.laws_sessions.proofs.Calming.{stopped_is}
 use Rattle.laws_sessions.proofs.DeletionSteps.{joined_holds, joined_more}
 use Rattle.laws_sessions.proofs.FilledFolders.{IsFilling, met_found}
-use Rattle.laws_sessions.proofs.Knowing.{IsKept, IsKnown, HistoryFacts, settled_marks}
+use Rattle.laws_sessions.proofs.Knowing.{HasCalmMode, IsKept, IsKnown, HistoryFacts, settled_marks}
 use Rattle.laws_sessions.proofs.KnownParts.{HasName, IsLinkOf, LinkKnows, link_knows_settled}
 use Rattle.laws_sessions.proofs.LinkParts.{has_link, link_known}
 use Rattle.laws_sessions.proofs.MakingParts.{MakesPart, marks_new, new_node, off_part, part_node, with_part}
+use Rattle.laws_sessions.proofs.PathsBelow.{is_below}
 use Rattle.laws_sessions.proofs.PlacingParts.{marks_firm}
 use Rattle.laws_sessions.proofs.Resting.{IsSureFolder, folder_at_of}
 use Rattle.laws_sessions.proofs.Stepped.{comes_one, said_after}
-use Rattle.laws_sessions.proofs.StepsKnown.{among_next}
 use Rattle.laws_sessions.proofs.TreeBefore.{Before, Result, Then, idle_quiet}
-use Rattle.laws_sessions.proofs.TreeBegins.{MayChange, Meets, may_change_now, worked_filled, worked_own}
+use Rattle.laws_sessions.proofs.TreeBegins.{MayChange, Meets, may_change_now, met_own, worked_filled}
 use Rattle.laws_sessions.proofs.TreeKnown.{ItemHas}
 use Rattle.laws_sessions.proofs.TreeSkipped.{link_has}
-use Rattle.laws_sessions.proofs.TreeSteps.{IsNextOf, next_of}
+use Rattle.laws_sessions.proofs.TreeSteps.{IsNextOf, among_next, next_of}
 use Rattle.laws_sessions.proofs.TreeListed.{list_joins, list_stays, no_part, noted_clean, noted_dirty}
 use Rattle.copy_file.specs.PartNames.{IsChosen, IsFirstFree, part_name}
 use Rattle.copy_tree.specs.Taking.{IsTaken}
@@ -166,8 +164,8 @@ module _ (told : HistoryFacts) (dirty dirty_after : List Route) (marks : Marks) 
       may : MayChange marks log c mid
       may = may_change_now told dirty marks log kept c mid b.n b.leaves b.stands none t.pair t.next meets b.begun b.owed
 
-      own : may_change (Copies c.top.source c.top.target) folder_in ≡ true
-      own = subst (λ q. may_change (Copies c.top.source c.top.target) q ≡ true) (sym here) (worked_own told dirty marks log kept c mid b.n b.leaves b.stands none t.pair t.next meets)
+      own : is_prefix c.top.target target ≡ true
+      own = met_own told dirty marks log kept c mid b.n b.leaves b.stands none t.pair t.next meets
 
       filling : IsFilling log up (ahead mid)
       filling = worked_filled told dirty marks log kept c mid b.n b.leaves b.stands none t.pair t.next meets clean may.here
@@ -177,7 +175,7 @@ module _ (told : HistoryFacts) (dirty dirty_after : List Route) (marks : Marks) 
 
       as_it_was : IsAsFound marks (current log) target
       as_it_was = subst (λ q. IsAsFound marks (current log) q) (sym met.target_is)
-          (met_found told dirty marks log up (ahead mid) (target_name mid met.name) kept filling (among_next mid met.name met.rest met.names_are) (subst (λ q. IsBare (current log) q) met.target_is bare) (let still = may.calm up (subst (λ q. may_change (Copies c.top.source c.top.target) q ≡ true) here own) in still.modes))
+          (met_found told dirty marks log up (ahead mid) (target_name mid met.name) kept filling (among_next mid met.name met.rest met.names_are) (subst (λ q. IsBare (current log) q) met.target_is bare) (subst (HasCalmMode marks (current log)) met.target_is (let still = may.calm target own in still.mode)))
 
       has_name : HasName target
       has_name = record { name = target_name mid met.name; is = met.target_is ∙ ap (λ q. (let r : Route = target_name mid met.name ∷ q in r)) (sym here) }
@@ -210,7 +208,7 @@ module _ (told : HistoryFacts) (dirty dirty_after : List Route) (marks : Marks) 
       new_mode = kept.modes n (kept.known.files.unborn n (omega arith))
 
       abbrev may_in : Route → Bool
-      may_in p = may_change (Copies c.top.source c.top.target) p
+      may_in p = is_prefix c.top.target p
 
       abbrev marks_then : Marks
       marks_then = marks_firm (marks_new marks (name ∷ folder_in) n) n
@@ -273,7 +271,7 @@ module _ (told : HistoryFacts) (dirty dirty_after : List Route) (marks : Marks) 
       at_part q same k known = record {
         part = subst (λ (x : Seen). ItemHas (said_after now (Began q) (Copy c) told) dirty_after k (current now) GoesOn x.item) (sym stands)
             (link_has (said_after now (Began q) (Copy c) told) dirty_after k (current now) GoesOn moved (noted_copy did (link.is_dirty moved.folder) mid) moved.stage refl stands_part (of_moved q k same known));
-        around = λ some. inl (or_left _ _ (or_left _ _ (same_path-self (folder_of c.top.target))));
+        around = λ some. inl (or_left _ _ (is_below c.top.target []));
         had = λ some. (may.outside, may.has);
         modes = λ h. h;
       }

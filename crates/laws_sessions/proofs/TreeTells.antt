@@ -40,7 +40,7 @@ use Rattle.laws_sessions.proofs.Stepped.{StepRan, comes_map, comes_none, said_af
 use Rattle.laws_sessions.proofs.TreeBefore.{Before, Result, Then, had_begun, is_begun}
 use Rattle.laws_sessions.proofs.TreeCalls.{around_at, left_item}
 use Rattle.laws_sessions.proofs.TreeGoing.{fresh_before, leaves_laid}
-use Rattle.laws_sessions.proofs.TreeKnown.{AroundKnows, ItemHas, TreeGoes, TreeKnown, item_course}
+use Rattle.laws_sessions.proofs.TreeKnown.{ItemHas, TargetKnows, TreeGoes, TreeKnown, item_course}
 use Rattle.laws_sessions.proofs.TreeLeads.{tree_fresh, tree_then}
 use Rattle.laws_sessions.proofs.TreeMachine.{SaysPassed, owes, passed_trouble, skip_says, works}
 use Rattle.laws_sessions.proofs.TreeSkipped.{skipped_item, skips_none}
@@ -131,7 +131,7 @@ module _ (told : HistoryFacts) (dirty dirty_after : List Route) (marks : Marks) 
   -- what is in trouble is passed over in the same step
   module _ (trouble : Trouble) (come : Comes_to (Troubled trouble) s.moved) (why : Cause) (skips : machine.Skips why s.moved did new.at) where
     passed_known : (d : Did) → did ≡ d → ((t : Trouble) → d ≡ Troubled t → may_fill (course_after d) ≡ true → ⊥) → (m : Marks) → Then told dirty_after log now c (Troubled trouble) s.moved m
-        → ItemHas told dirty_after m (current now) (course_after d) new.at.item × (is_fresh c.at.stage ≡ false → AroundKnows told m (current now) (record c { at = new.at }))
+        → ItemHas told dirty_after m (current now) (course_after d) new.at.item × (is_fresh c.at.stage ≡ false → TargetKnows told m (current now) (record c { at = new.at }))
     passed_known d is off m h =
         let at = subst (λ x. machine.Skips why s.moved x new.at) is skips in (
           skipped_item told dirty_after m (current now) (course_after (Troubled trouble)) (course_after d) why d off s.moved.item s.moved new.at refl at h.part,
@@ -200,7 +200,7 @@ module _ (told : HistoryFacts) (dirty dirty_after : List Route) (marks : Marks) 
           let some : is_fresh (after_report did c.at.stage) ≡ false = sym (ap is_fresh told_so.stage) ∙ off in
           let had = h.had some in
           tree_then told dirty dirty_after marks log now kept c new did free replies count f0 f1 s goes.stands k.name told_so had.0 had.1 after (course_after did) m (h.modes stepped.1) (folder_then did refl some) h.part
-          (subst (λ (x : SubtreeCopying). AroundKnows after m (current now) x) (sym s.stands) (h.around some))
+          (subst (λ (x : SubtreeCopying). TargetKnows after m (current now) x) (sym s.stands) (h.around some))
 
   knows_after : (d : Did) → (m : Marks) → TreeKnown (said_after now d (Copy c) told) dirty_after m now (course_after d) new → KnowsAfter d (said_after now d (Copy c) told) dirty_after now (course_after d) (Copy new) m
   knows_after (Ended ending part) m known = refl

@@ -134,7 +134,7 @@ module _ (told : HistoryFacts) (dirty dirty_after : List Route) (marks : Marks) 
   -- a file
   module _ (f : Copying) (item : mid.item ≡ File f) (unclaimed : Route → Type 0) where
     -- something is at work, so the target wasn't given its mode yet
-    calm_file : told.calm (folder_of c.top.target) ≡ true
+    calm_file : told.calm c.top.target ≡ true
     calm_file = elim (b.around some) [ inl calm ↦ calm | inr but ↦ absurd (let e : File f ≡ Next = sym item ∙ but.0 in let x : ⊥ = cc in x) ]
 
     known_item : ItemKnown log mid (File f)
@@ -183,7 +183,7 @@ module _ (told : HistoryFacts) (dirty dirty_after : List Route) (marks : Marks) 
 
   -- a link, whose part stands
   module _ (l : LinkCopying) (item : mid.item ≡ Link l) (new : Seen) where
-    calm_link : told.calm (folder_of c.top.target) ≡ true
+    calm_link : told.calm c.top.target ≡ true
     calm_link = elim (b.around some) [ inl calm ↦ calm | inr but ↦ absurd (let e : Link l ≡ Next = sym item ∙ but.0 in let x : ⊥ = cc in x) ]
 
     part_has : (link.has_part l.stage ≡ true) × LinkKnows told dirty marks (current log) l.source l.target l.part

@@ -17,7 +17,7 @@ use Rattle.copy_job.specs.Standing.{SubtreeCopying}
 use Rattle.copy_job.specs.SubtreeSteps.{ListSteps, SubtreeSteps, step_result}
 use Rattle.laws_sessions.proofs.Intact.{prefix_append}
 use Rattle.laws_sessions.proofs.TreeMachine.{SaysPassed, skip_says}
-use Rattle.laws_outcomes.proofs.ChangedPaths.{IsChanged}
+use Rattle.laws_sessions.proofs.ChangedPaths.{IsChanged}
 
 -- one path was changed
 one_path : (p q : Route) → Among (p ∷ []) q → p ≡ q
