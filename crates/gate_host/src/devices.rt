@@ -1,4 +1,5 @@
-//! The other devices: the shell, the keyboard, the size of the screen, the clock; and a fault that is counted.
+//! The other devices: the shell, the keyboard, the size of the screen, the clock; and a fault that is
+//! counted.
 use host_devices::size_in;
 use mc_text::Path;
 use rows_page::{Page, two_fields};

@@ -1,4 +1,5 @@
-//! What `stty` says and sets of the terminal that is the standard input. Where that is no terminal it refuses.
+//! What `stty` says and sets of the terminal that is the standard input. Where that is no terminal it
+//! refuses.
 use std::io;
 use std::io::ErrorKind;
 use std::process::{Command, Processes, Stdio};
