@@ -18,8 +18,11 @@ loop-cluster-preserved c =
     let put : string_bytes c.push_where.new.line ≡ before ++ (if nat_le c.loop-cluster.left c.args.room then cluster else []) = search rules in
     let left = c.loop-cluster.invariant.2 ∙ ap (sum_by cluster_columns) steps in
     let all = sum_by-cons cluster_columns cluster rest in
-    let columns = c.columns_of_cluster-left.ensures in
-    (tt, tt, omega (arith, left, all, columns),
-    ap (λ line. line ++ concat (end_within c.args.room rest)) put
-    ∙ (next_of_end c.args.room c.loop-cluster.left before cluster rest left
-    ∙ (ap (λ clusters. before ++ concat (end_within c.args.room clusters)) (sym steps) ∙ c.loop-cluster.invariant.3)))
+    let columns = c.columns_of_cluster-left.ensures in (
+      tt,
+      tt,
+      omega (arith, left, all, columns),
+      ap (λ line. line ++ concat (end_within c.args.room rest)) put
+          ∙ (next_of_end c.args.room c.loop-cluster.left before cluster rest left
+          ∙ (ap (λ clusters. before ++ concat (end_within c.args.room clusters)) (sym steps) ∙ c.loop-cluster.invariant.3)),
+    )
