@@ -56,3 +56,14 @@ returns-after-loop-ui-clause-sought g c =
       most = was.most;
       made = may_have_lacked c.loop-ui.steps _ _ _ c.args.ui.now c.loop-ui.ui was.made;
     }
+
+pub returns-then-is_stopped-clause-sought : goal.returns-then-is_stopped-clause-sought
+returns-then-is_stopped-clause-sought g c =
+    let was = c.loop-ui.invariant in
+    let many : 1 ≤ c.loop-ui.steps = search rules in
+    record {
+      steps = c.loop-ui.steps;
+      some = many;
+      most = was.most;
+      made = may_have_lacked c.loop-ui.steps _ _ _ c.args.ui.now c.loop-ui.ui was.made;
+    }
