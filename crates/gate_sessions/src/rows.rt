@@ -133,6 +133,7 @@ fn bytes_of_key(key: &str) -> &str {
         "enter" => "\r",
         "tab" => "\t",
         "insert" => "\x1b[2~",
+        "c-l" => "\x0c",
         "c-u" => "\x15",
         "c-x" => "\x18",
         "escape" => "\x1b",
