@@ -13,7 +13,7 @@ from job_checks import (
     check_copied_folders, check_copies, check_folders, check_kept_folder, check_links, check_modes, check_questions,
     check_new_folders, check_set_id_bits,
 )
-from key_checks import check_keys_of_terminals
+from key_checks import check_keys_of_terminals, check_redraw
 from merge_checks import check_merged_folders
 from move_checks import check_moves
 from panel_box_checks import check_big_home, check_panel_boxes
@@ -65,6 +65,7 @@ def main():
         check_frames(program, base, check)
         check_viewer(program, base, check)
         check_keys_of_terminals(program, base, check)
+        check_redraw(program, base, check)
         check_find(program, base, check)
         check_panels(program, base, check)
         check_panel_boxes(program, base, check)

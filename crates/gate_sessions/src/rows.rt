@@ -134,6 +134,7 @@ fn bytes_of_key(key: &str) -> &str {
         "tab" => "\t",
         "insert" => "\x1b[2~",
         "c-c" => "\x03",
+        "c-l" => "\x0c",
         "c-u" => "\x15",
         "c-x" => "\x18",
         "escape" => "\x1b",

@@ -45,6 +45,7 @@ use Rattle.mc_desk.specs.LiveRows.{row_of, rows_told}
 use Rattle.mc_desk.specs.Granting.{KeyWorks}
 use Rattle.mc_ui.specs.Seekings.{is_seeking}
 use Rattle.mc_desk.specs.Searches.{HasSought}
+use Rattle.mc_desk.specs.Redrawing.{asks_anew}
 use Rattle.mc_desk.specs.Shown.{DrawsFrame, PutsNothing, frame_due, none_before}
 use Rattle.mc_desk.specs.Sessions.{MayEnd, MayWork, StepFault}
 use Rattle.job_sources.specs.Turning.{finishes}
@@ -169,7 +170,7 @@ module _ (contents contents_after : Option CallLog) (faults : ℕ) (old new : Se
       → new.tally.job ≡ option_map told_job new.job → old.tally.closed ≡ false → old.tally.due ≡ None → MayWork key old.screen → old.tally.lost ≡ false → old.screen.planned ≡ None → contents_after ≡ contents
       → faults_in faults old.newest ≤ count → (has_fault refusals ≡ true → HasRisen (faults_in faults old.newest) count) → IfKnown contents (λ log. AreRefused log refusals)
       → KeyWorks contents (rows_told old.newest) (next_id old.tally.last) now key refusals (noted_screen old) (noted_screen new) → old.quit ≡ false → new.dirty ≡ old.dirty → new.later ≡ old.later
-      → DrawsFrame (none_before old.newest) (frame_due (noted_screen new) (next_id old.tally.last) (rows_told old.newest)) shown old.out.put new.out.put
+      → DrawsFrame (asks_anew key || none_before old.newest) (frame_due (noted_screen new) (next_id old.tally.last) (rows_told old.newest)) shown old.out.put new.out.put
       → Adds contents contents_after faults old new (entry seat old.tally.calls count shown (Key key now refusals false))
   adds_key key now refusals more tally job tells unclosed looked sought unlost settled same later fault refused leads unasked dirty left draws = record {
     turn = tt;
@@ -210,14 +211,14 @@ module _ (contents contents_after : Option CallLog) (faults : ℕ) (old new : Se
   }
 
   -- a look
-  pub adds_look : (refusals : List Refusal) → new.newest ≡ entry seat old.tally.calls count shown (Look refusals) ∷ old.newest
+  pub adds_look : (now : ℕ) (refusals : List Refusal) → new.newest ≡ entry seat old.tally.calls count shown (Look refusals) ∷ old.newest
       → new.tally ≡ record old.tally { has_unseen_end = false; due = if can_step old.tally.job then old.tally.due else None } → new.job ≡ old.job → new.tally.job ≡ option_map told_job new.job
       → old.tally.closed ≡ false → IsSome old.tally.due → old.screen.planned ≡ None → contents_after ≡ contents
       → faults_in faults old.newest ≤ count → (has_fault refusals ≡ true → HasRisen (faults_in faults old.newest) count) → IfKnown contents (λ log. AreRefused log refusals)
-      → LookLeads contents (rows_told old.newest) old.tally.has_unseen_end (news_left old.newest) refusals old.screen new.screen → new.quit ≡ old.quit → old.quit ≡ false → new.dirty ≡ old.dirty → new.later ≡ old.later
+      → LookLeads contents (rows_told old.newest) now old.tally.has_unseen_end (news_left old.newest) refusals old.screen new.screen → new.quit ≡ old.quit → old.quit ≡ false → new.dirty ≡ old.dirty → new.later ≡ old.later
       → DrawsFrame (none_before old.newest) (frame_due (noted_screen new) (next_id old.tally.last) (rows_told old.newest)) shown old.out.put new.out.put
       → Adds contents contents_after faults old new (entry seat old.tally.calls count shown (Look refusals))
-  adds_look refusals more tally job tells unclosed is_due settled same later fault refused leads quit unasked dirty left draws = record {
+  adds_look now refusals more tally job tells unclosed is_due settled same later fault refused leads quit unasked dirty left draws = record {
     turn = tt;
     left = left;
     draws = draws;
@@ -230,8 +231,9 @@ module _ (contents contents_after : Option CallLog) (faults : ℕ) (old new : Se
     leads = (
       unclosed,
       is_due,
-      subst (λ s. LookLeads contents (rows_told old.newest) old.tally.has_unseen_end (news_left old.newest) refusals s (noted_screen new)) (sym (unasked_screen old unasked))
-          (subst (λ s. LookLeads contents (rows_told old.newest) old.tally.has_unseen_end (news_left old.newest) refusals old.screen s) (sym (unasked_screen new (quit ∙ unasked))) leads),
+      now,
+      subst (λ s. LookLeads contents (rows_told old.newest) now old.tally.has_unseen_end (news_left old.newest) refusals s (noted_screen new)) (sym (unasked_screen old unasked))
+          (subst (λ s. LookLeads contents (rows_told old.newest) now old.tally.has_unseen_end (news_left old.newest) refusals old.screen s) (sym (unasked_screen new (quit ∙ unasked))) leads),
     );
     sought = tt;
     caused = refused;

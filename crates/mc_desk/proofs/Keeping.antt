@@ -1,5 +1,5 @@
 -- One entry more is a session still.
-use Rattle.std.proofs.Common.{◌≡◌, ℕ, ◌+◌, ◌≤◌, Bool, true, false, ◌||◌, List, [], ◌∷◌, length, refl, sym, ◌∙◌, ap, subst, Option, Some, None, arith}
+use Rattle.std.proofs.Common.{◌≡◌, ℕ, ◌+◌, ◌≤◌, Bool, true, false, not, ◌||◌, List, [], ◌∷◌, length, refl, sym, ◌∙◌, ap, subst, Option, Some, None, arith}
 use Rattle.std.specs.Option.{option_map}
 use Rattle.mc_text.specs.Routes.{Route}
 use Rattle.tree_trait.specs.Change.{CallLog}
@@ -28,6 +28,7 @@ use Rattle.mc_desk.specs.StartedDesks.{IsOpened}
 use Rattle.mc_desk.specs.declared.standing.Standing.{Standing}
 use Rattle.mc_desk.specs.Outputs.{FitsScreen, Output}
 use Rattle.mc_desk.specs.Searches.{EventSeeks}
+use Rattle.mc_desk.specs.Redrawing.{draws_anew}
 use Rattle.mc_desk.specs.Shown.{EventDraws, frame_due, none_before}
 use Rattle.mc_desk.specs.DeskDevices.{HasPutNothing, Put}
 use Rattle.mc_desk.specs.Standings.{fresh_standing}
@@ -40,9 +41,9 @@ plans_nothing (View path) contents home lines columns screen is = ap (λ (s : Sc
 
 -- a desk on which nothing happened yet
 pub kept_opening : (start : Option Start) (opening contents : Option CallLog) (faults : ℕ) (named : Start) (screen : Screen) (log : Logged) (standing : Standing) (dirty : List Route) (out : Output) (taken : ℕ) (pending : List ℕ)
-    → BeginsIn start named → contents ≡ opening → IsOpened contents named screen log → standing ≡ fresh_standing → dirty ≡ [] → HasPutNothing out.put → FitsScreen out.display.grid screen
+    → BeginsIn start named → contents ≡ opening → IsOpened contents named screen log → standing ≡ fresh_standing → dirty ≡ [] → HasPutNothing out.put → out.display.has_drawn ≡ false → FitsScreen out.display.grid screen
     → IsDesk start opening contents faults (seen_of log screen standing dirty out taken pending)
-kept_opening start opening contents faults named screen log standing dirty out taken pending begins same opened fresh none nothing fits =
+kept_opening start opening contents faults named screen log standing dirty out taken pending begins same opened fresh none nothing undrawn fits =
     subst (λ s. IsDesk start opening contents faults (seen_of log screen s dirty out taken pending)) (sym fresh) (record {
       written = record {
         session = subst (λ es. IsSession start opening faults es now) (sym opened.empty)
@@ -59,7 +60,7 @@ kept_opening start opening contents faults named screen log standing dirty out t
       room = let h = opened.room in omega (arith, h);
       shown = record {
         size = fits;
-        drawn = λ unclosed uncut some. absurd (let empty = ap none_before opened.empty in cc);
+        drawn = λ unclosed uncut. undrawn ∙ ap (λ es. not (none_before es)) (sym opened.empty);
         current = λ unclosed uncut looked. absurd cc;
         still = λ unclosed looked. refl;
       };
@@ -92,7 +93,7 @@ pub record Adds (contents contents_after : Option CallLog) (faults : ℕ) (old n
   pub caused : IfKnown contents (HasCauses e.what)
   pub traced : Leads contents contents_after old new e
   pub unknown : contents ≡ None → contents_after ≡ None
-  pub draws : EventDraws e.what (none_before old.newest) (frame_due (noted_screen new) (next_id old.tally.last) (rows_told old.newest)) e.shown old.out.put new.out.put
+  pub draws : EventDraws e.what (draws_anew e.what old.newest) (frame_due (noted_screen new) (next_id old.tally.last) (rows_told old.newest)) e.shown old.out.put new.out.put
 
 -- the sources of each job are worked in turn
 pub session_in_turn : (start : Option Start) (opening : Option CallLog) (faults : ℕ) (newest : List Entry) (now : SessionState) → IsSession start opening faults newest now → AreInTurn newest
@@ -173,7 +174,7 @@ module _ (faults : ℕ) (old new : Seen) (e : Entry) where
         sought = adds.sought;
         caused = adds.caused;
         traced = traced_more start opening contents contents_after written adds;
-        draws = subst (λ n. EventDraws e.what (none_before old.newest) (frame_due (noted_screen new) (next_id n) (rows_told old.newest)) e.shown old.out.put new.out.put) (ap (λ (t : Tally). t.last) written.tally) adds.draws;
+        draws = subst (λ n. EventDraws e.what (draws_anew e.what old.newest) (frame_due (noted_screen new) (next_id n) (rows_told old.newest)) e.shown old.out.put new.out.put) (ap (λ (t : Tally). t.last) written.tally) adds.draws;
       },
     );
     tally = adds.tally ∙ (ap (after_entry e) written.tally ∙ ap tally (sym adds.more));

@@ -21,7 +21,7 @@ use Rattle.session_log.specs.Told.{waits_told, news_left}
 use Rattle.mc_desk.specs.LiveRows.{rows_of, rows_told}
 use Rattle.session_log.specs.Logs.{Logged}
 use Rattle.mc_desk.specs.Outputs.{FitsScreen, Output, ShowsFrame}
-use Rattle.mc_desk.specs.Shown.{frame_at, frame_due, rows_then}
+use Rattle.mc_desk.specs.Shown.{frame_at, frame_due, none_before, rows_then}
 use Rattle.screen_draw.specs.Drawings.{Display}
 use Rattle.mc_ui.specs.Frames.{frame_of}
 use Rattle.mc_desk.specs.Standings.{after_look, awaited_look, tally_of}
@@ -66,23 +66,23 @@ taken_up was = record was { has_unseen_end = false; due = after_look (can_step w
 module _ (start : Option Start) (opening contents contents_after : Option CallLog) (faults : ℕ) (log log_after : Logged) (screen screen_after : Screen) (was now_is : Standing) (dirty : List Route) (out out_after : Output) (taken : ℕ)
     (pending : List ℕ) (count : ℕ) (desk : IsDesk start opening contents faults (seen_of log screen was dirty out taken pending)) (unclosed : was.closed ≡ false) (unasked : was.quit ≡ false) (is_due : IsSome (awaited_look was.due))
     (same : contents_after ≡ contents) (later : faults_in faults log.newest ≤ count) where
-  pub looked_whole : (refusals : List Refusal) (rows : List JobRow) (news : Option Message) → rows ≡ rows_of was.job (waits_told log.newest) → news ≡ news_left log.newest
-      → (has_fault refusals ≡ true → HasRisen (faults_in faults log.newest) count) → IfKnown contents (λ l. AreRefused l refusals) → LookLeads contents rows was.has_unseen_end news refusals screen screen_after
+  pub looked_whole : (now : ℕ) (refusals : List Refusal) (rows : List JobRow) (news : Option Message) → rows ≡ rows_of was.job (waits_told log.newest) → news ≡ news_left log.newest
+      → (has_fault refusals ≡ true → HasRisen (faults_in faults log.newest) count) → IfKnown contents (λ l. AreRefused l refusals) → LookLeads contents rows now was.has_unseen_end news refusals screen screen_after
       → screen_after.planned ≡ None → log_after.newest ≡ entry 0 was.calls count out_after.shown (Look refusals) ∷ log.newest → 2 ≤ log_after.spare → now_is ≡ taken_up was
-      → (r : Result (Unit {0}) SinkError) → FitsScreen out_after.display.grid screen_after → ShowsFrame (frame_of screen_after (rows_of was.job (waits_told log.newest))) r out out_after
+      → (r : Result (Unit {0}) SinkError) → FitsScreen out_after.display.grid screen_after → ShowsFrame false (frame_of screen_after (rows_of was.job (waits_told log.newest))) r out out_after
       → IsDesk start opening contents_after faults (seen_of log_after screen_after now_is dirty out_after taken pending)
-  looked_whole refusals rows news rows_is news_is fault refused leads settled more room is r fits s =
+  looked_whole now refusals rows news rows_is news_is fault refused leads settled more room is r fits s =
       subst (λ s. IsDesk start opening contents_after faults (seen_of log_after screen_after s dirty out_after taken pending)) (sym is)
-      (desk_looked start opening contents contents_after faults _ (seen_of log_after screen_after (taken_up was) dirty out_after taken pending) count out_after.shown refusals rows news rows_is news_is desk unclosed is_due same later fault
+      (desk_looked start opening contents contents_after faults _ (seen_of log_after screen_after (taken_up was) dirty out_after taken pending) count out_after.shown now refusals rows news rows_is news_is desk unclosed is_due same later fault
       refused leads more
       (ap (λ d. let t : Tally = record (tally_of was) { has_unseen_end = false; due = d } in t)
       (due_by_number (can_step was.job) was.due ∙ ap (λ b. if b then awaited_look was.due else None) (sym (steps_told was.job))))
       refl refl settled refl room refl refl unasked
-      (shown_drawn (seen_of log_after screen_after (taken_up was) dirty out_after taken pending) fits
+      (shown_drawn (seen_of log_after screen_after (taken_up was) dirty out_after taken pending) (ap none_before more) fits
       (subst (λ es. out_after.put.is_cut ≡ false → out_after.display ≡ (let d : Display = record { grid = frame_of screen_after (rows_of was.job (waits_told es)); has_drawn = true } in d)) (sym more)
-      (shown_whole (frame_of screen_after (rows_of was.job (waits_told log.newest))) r out out_after s))
+      (shown_whole false (frame_of screen_after (rows_of was.job (waits_told log.newest))) r out out_after s))
       still)
-      (draws_written (seen_of log screen was dirty out taken pending) (frame_of screen_after (rows_of was.job (waits_told log.newest)))
+      (draws_written false (seen_of log screen was dirty out taken pending) (frame_of screen_after (rows_of was.job (waits_told log.newest)))
       (frame_due (with_end was.quit screen_after) (next_id was.last_id) (rows_told log.newest)) r out_after desk.shown unclosed s
       (frame_is_due start opening contents faults log screen was dirty out taken pending desk unasked screen_after settled)))
     where

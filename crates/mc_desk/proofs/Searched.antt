@@ -12,7 +12,7 @@ use Rattle.session_log.specs.Told.{waits_told}
 use Rattle.mc_desk.specs.LiveRows.{rows_of, rows_told}
 use Rattle.session_log.specs.Logs.{Logged}
 use Rattle.mc_desk.specs.Outputs.{FitsScreen, Output, ShowsFrame}
-use Rattle.mc_desk.specs.Shown.{frame_due}
+use Rattle.mc_desk.specs.Shown.{frame_due, none_before}
 use Rattle.screen_draw.specs.Drawings.{Display}
 use Rattle.mc_ui.specs.Frames.{frame_of}
 use Rattle.mc_desk.specs.Searches.{HasSought}
@@ -45,15 +45,15 @@ module _ (start : Option Start) (opening contents contents_after : Option CallLo
     (pending : List ℕ) (from count : ℕ) (desk : IsDesk start opening contents faults (seen_of log screen was dirty out taken pending)) (unclosed : was.closed ≡ false) (unasked : was.quit ≡ false) (looked : awaited_look was.due ≡ None)
     (seeking : is_seeking screen ≡ true) (same : contents_after ≡ contents) (had : faults_in faults log.newest ≤ from) (later : from ≤ count) where
   pub sought_whole : HasSought contents from count screen screen_after → screen_after.planned ≡ None → log_after.newest ≡ entry 0 was.calls count out_after.shown Sought ∷ log.newest → 2 ≤ log_after.spare
-      → (r : Result (Unit {0}) SinkError) → FitsScreen out_after.display.grid screen_after → ShowsFrame (frame_of screen_after (rows_of was.job (waits_told log.newest))) r out out_after
+      → (r : Result (Unit {0}) SinkError) → FitsScreen out_after.display.grid screen_after → ShowsFrame false (frame_of screen_after (rows_of was.job (waits_told log.newest))) r out out_after
       → IsDesk start opening contents_after faults (seen_of log_after screen_after was dirty out_after taken pending)
   sought_whole made settled more room r fits s =
       desk_sought start opening contents contents_after faults _ (seen_of log_after screen_after was dirty out_after taken pending) from count out_after.shown desk unclosed looked seeking same had later made more
       refl refl refl settled refl room refl refl unasked
-      (shown_drawn (seen_of log_after screen_after was dirty out_after taken pending) fits
+      (shown_drawn (seen_of log_after screen_after was dirty out_after taken pending) (ap none_before more) fits
       (subst (λ es. out_after.put.is_cut ≡ false → out_after.display ≡ (let d : Display = record { grid = frame_of screen_after (rows_of was.job (waits_told es)); has_drawn = true } in d)) (sym more)
-      (shown_whole (frame_of screen_after (rows_of was.job (waits_told log.newest))) r out out_after s))
+      (shown_whole false (frame_of screen_after (rows_of was.job (waits_told log.newest))) r out out_after s))
       desk.shown.still)
-      (draws_written (seen_of log screen was dirty out taken pending) (frame_of screen_after (rows_of was.job (waits_told log.newest)))
+      (draws_written false (seen_of log screen was dirty out taken pending) (frame_of screen_after (rows_of was.job (waits_told log.newest)))
       (frame_due (with_end was.quit screen_after) (next_id was.last_id) (rows_told log.newest)) r out_after desk.shown unclosed s
       (frame_is_due start opening contents faults log screen was dirty out taken pending desk unasked screen_after settled))

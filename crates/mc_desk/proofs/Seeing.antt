@@ -10,7 +10,8 @@ use Rattle.session_entries.specs.declared.history.Event.TheVariants.{Key, Look, 
 use Rattle.session_entries.specs.declared.history.Entry.{Entry}
 use Rattle.mc_desk.specs.declared.starts.Start.{Start}
 use Rattle.mc_desk.specs.Sessions.{IsSession, SessionState}
-use Rattle.mc_desk.specs.Shown.{DrawsFrame, EventDraws, ShowsOverAny, none_before}
+use Rattle.mc_desk.specs.Redrawing.{draws_anew}
+use Rattle.mc_desk.specs.Shown.{DrawsFrame, EventDraws, ShowsOverAny}
 use Rattle.mc_desk.specs.DeskDevices.{Put}
 use Rattle.mc_desk.specs.ShownEntries.{CameTo, CutsEntry, ShowsEach, ShowsEntry, draws}
 
@@ -19,22 +20,22 @@ take_all [] = refl
 take_all (x ∷ xs) = ap (λ ys. x ∷ ys) (take_all xs)
 
 -- an event draws a frame, or leaves what was put
-drawn_or_still : (what : Event) (is_first : Bool) (frame : CellGrid) (shown : ℕ) (before after : Put) → EventDraws what is_first frame shown before after
-    → ((draws what ≡ true) × DrawsFrame is_first frame shown before after) ⊎ ((draws what ≡ false) × (after ≡ before))
-drawn_or_still (Key key now refusals false) is_first frame shown before after d = inl (refl, d)
-drawn_or_still (Key key now refusals true) is_first frame shown before after d = inr (refl, d.same)
-drawn_or_still (Look refusals) is_first frame shown before after d = inl (refl, d)
-drawn_or_still Sought is_first frame shown before after d = inl (refl, d)
-drawn_or_still (Began id plan background) is_first frame shown before after d = inr (refl, d.same)
-drawn_or_still (Order id order) is_first frame shown before after d = inr (refl, d.same)
-drawn_or_still (Step id did) is_first frame shown before after d = inr (refl, d.same)
-drawn_or_still (Next id plan) is_first frame shown before after d = inr (refl, d.same)
-drawn_or_still Closed is_first frame shown before after d = inr (refl, d.same)
+drawn_or_still : (what : Event) (is_anew : Bool) (frame : CellGrid) (shown : ℕ) (before after : Put) → EventDraws what is_anew frame shown before after
+    → ((draws what ≡ true) × DrawsFrame is_anew frame shown before after) ⊎ ((draws what ≡ false) × (after ≡ before))
+drawn_or_still (Key key now refusals false) is_anew frame shown before after d = inl (refl, d)
+drawn_or_still (Key key now refusals true) is_anew frame shown before after d = inr (refl, d.same)
+drawn_or_still (Look refusals) is_anew frame shown before after d = inl (refl, d)
+drawn_or_still Sought is_anew frame shown before after d = inl (refl, d)
+drawn_or_still (Began id plan background) is_anew frame shown before after d = inr (refl, d.same)
+drawn_or_still (Order id order) is_anew frame shown before after d = inr (refl, d.same)
+drawn_or_still (Step id did) is_anew frame shown before after d = inr (refl, d.same)
+drawn_or_still (Next id plan) is_anew frame shown before after d = inr (refl, d.same)
+drawn_or_still Closed is_anew frame shown before after d = inr (refl, d.same)
 
 -- what was put before a drawing is a prefix of what was put by then
-prefix_of : (is_first : Bool) (frame : CellGrid) (shown : ℕ) (before after : Put) (all : List ℕ) → DrawsFrame is_first frame shown before after → after.bytes ≡ Some all
+prefix_of : (is_anew : Bool) (frame : CellGrid) (shown : ℕ) (before after : Put) (all : List ℕ) → DrawsFrame is_anew frame shown before after → after.bytes ≡ Some all
     → (earlier : List ℕ) × (more : List ℕ) × (before.bytes ≡ Some earlier) × (all ≡ earlier ++ more)
-prefix_of is_first frame shown before after all d known = go before.bytes refl
+prefix_of is_anew frame shown before after all d known = go before.bytes refl
   where
     same : (bytes : List ℕ) → after.bytes ≡ Some bytes → all ≡ bytes
     same bytes is = let both : Some all ≡ Some bytes = sym known ∙ is in cc
@@ -68,7 +69,7 @@ module _ (start : Option Start) (opening : Option CallLog) (faults : ℕ) where
 
   -- the newest entry, where it draws
   shows_newest : (e : Entry) (older : List Entry) (put_before put : Put) (all : List ℕ) (frame : CellGrid) → CameTo start opening faults e older frame
-      → DrawsFrame (none_before older) frame e.shown put_before put → put.bytes ≡ Some all → ShowsEntry start opening faults e older all ⊎ ((put.is_cut ≡ true) × CutsEntry start opening faults [] e older all)
+      → DrawsFrame (draws_anew e.what older) frame e.shown put_before put → put.bytes ≡ Some all → ShowsEntry start opening faults e older all ⊎ ((put.is_cut ≡ true) × CutsEntry start opening faults [] e older all)
   shows_newest e older put_before put all frame came d known = go put_before.bytes refl
     where
       same : (bytes : List ℕ) → put.bytes ≡ Some bytes → bytes ≡ all

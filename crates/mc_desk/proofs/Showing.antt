@@ -1,6 +1,6 @@
 -- What the terminal of a desk shows, from call to call.
 use Rattle.std.proofs.Common.{◌≡◌, ℕ, ◌∷◌, true, false, List, [], refl, sym, ◌∙◌, ap, subst, Option, Some, None, Result, Ok, Err, OnOk}
-use Rattle.std.specs.Prelude.{if◌then◌else◌}
+use Rattle.std.specs.Prelude.{if◌then◌else◌, not}
 use Rattle.std.proofs.lemmas.Bool.{false≢true, true≢false}
 use Rattle.tree_trait.specs.declared.devices.SinkError.{SinkError}
 use Rattle.key_screen.specs.Grids.{CellGrid}
@@ -21,10 +21,10 @@ use Rattle.mc_ui.specs.Screens.{HasSameSize}
 use Rattle.mc_desk.specs.Tallies.{Tally, can_step, tally}
 
 -- a drawing that wasn't cut short shows its frame
-pub shown_whole : (frame : CellGrid) (r : Result (Unit {0}) SinkError) (before after : Output) → ShowsFrame frame r before after → after.put.is_cut ≡ false
+pub shown_whole : (anew : Bool) (frame : CellGrid) (r : Result (Unit {0}) SinkError) (before after : Output) → ShowsFrame anew frame r before after → after.put.is_cut ≡ false
     → after.display ≡ (let d : Display = record { grid = frame; has_drawn = true } in d)
-shown_whole frame (Ok x) before after s uncut = s.whole.1
-shown_whole frame (Err e) before after s uncut = absurd (true≢false (sym s.cut.0 ∙ uncut))
+shown_whole anew frame (Ok x) before after s uncut = s.whole.1
+shown_whole anew frame (Err e) before after s uncut = absurd (true≢false (sym s.cut.0 ∙ uncut))
 
 -- the grid has the size of the screen still
 pub fits_after : (grid after : CellGrid) (screen now : Screen) → FitsScreen grid screen → HasSizeOf grid after → HasSameSize screen now → FitsScreen after now
@@ -34,17 +34,17 @@ fits_after grid after screen now fits sized same = record { lines = same.same_li
 pub shown_closed : (desk : Seen) → desk.tally.closed ≡ true → FitsScreen desk.out.display.grid desk.screen → IsShown desk
 shown_closed desk closed fits = record {
   size = fits;
-  drawn = λ unclosed uncut some. absurd (true≢false (sym closed ∙ unclosed));
+  drawn = λ unclosed uncut. absurd (true≢false (sym closed ∙ unclosed));
   current = λ unclosed uncut looked. absurd (true≢false (sym closed ∙ unclosed));
   still = λ unclosed looked. absurd (true≢false (sym closed ∙ unclosed));
 }
 
 -- a desk whose frame was drawn
-pub shown_drawn : (desk : Seen) → FitsScreen desk.out.display.grid desk.screen → (desk.out.put.is_cut ≡ false → desk.out.display ≡ (let d : Display = record { grid = frame_now desk; has_drawn = true } in d))
+pub shown_drawn : (desk : Seen) → none_before desk.newest ≡ false → FitsScreen desk.out.display.grid desk.screen → (desk.out.put.is_cut ≡ false → desk.out.display ≡ (let d : Display = record { grid = frame_now desk; has_drawn = true } in d))
     → (desk.tally.closed ≡ false → desk.tally.due ≡ None → can_step desk.tally.job ≡ false) → IsShown desk
-shown_drawn desk fits whole still = record {
+shown_drawn desk written fits whole still = record {
   size = fits;
-  drawn = λ unclosed uncut some. ap (λ (d : Display). d.has_drawn) (whole uncut);
+  drawn = λ unclosed uncut. ap (λ (d : Display). d.has_drawn) (whole uncut) ∙ ap not (sym written);
   current = λ unclosed uncut looked. ap (λ (d : Display). d.grid) (whole uncut);
   still = still;
 }
@@ -61,12 +61,13 @@ looked_written (e ∷ older) none = refl
 
 -- a job that can be stepped is due, so the frame needs not be drawn yet
 pub shown_stepping : (old new : Seen) (live : Running) → IsShown old → old.tally ≡ tally old.newest → old.tally.job ≡ Some (told_job live) → waits_on live.course ≡ false → new.tally.closed ≡ old.tally.closed → new.tally.due ≡ old.tally.due
-    → new.out ≡ old.out → new.screen ≡ old.screen → IsShown new
-shown_stepping old new live shown written is ready closed due out screen = record {
+    → new.out ≡ old.out → new.screen ≡ old.screen → none_before new.newest ≡ false → IsShown new
+shown_stepping old new live shown written is ready closed due out screen some = record {
   size = subst (λ s. FitsScreen new.out.display.grid s) (sym screen) (subst (λ (o : Output). FitsScreen o.display.grid old.screen) (sym out) shown.size);
-  drawn = λ unclosed uncut some.
+  drawn = λ unclosed uncut.
       ap (λ (o : Output). o.display.has_drawn) out
-      ∙ shown.drawn (sym closed ∙ unclosed) (sym (ap (λ (o : Output). o.put.is_cut) out) ∙ uncut) (some_written old.newest (told_job live) (sym (ap (λ (t : Tally). t.job) written) ∙ is));
+      ∙ (shown.drawn (sym closed ∙ unclosed) (sym (ap (λ (o : Output). o.put.is_cut) out) ∙ uncut)
+      ∙ ap not (some_written old.newest (told_job live) (sym (ap (λ (t : Tally). t.job) written) ∙ is) ∙ sym some));
   current = λ unclosed uncut looked. absurd (no unclosed looked);
   still = λ unclosed looked. absurd (no unclosed looked);
 }
@@ -78,15 +79,24 @@ shown_stepping old new live shown written is ready closed due out screen = recor
     no unclosed looked = false≢true (sym (shown.still (sym closed ∙ unclosed) (sym due ∙ looked)) ∙ steps)
 
 -- a drawing that ended wasn't cut short
-pub ended_uncut : (frame : CellGrid) (r : Result (Unit {0}) SinkError) (before after : Output) → ShowsFrame frame r before after → OnOk r (after.put.is_cut ≡ false)
-ended_uncut frame (Ok x) before after s = s.whole.0
-ended_uncut frame (Err e) before after s = tt
+pub ended_uncut : (anew : Bool) (frame : CellGrid) (r : Result (Unit {0}) SinkError) (before after : Output) → ShowsFrame anew frame r before after → OnOk r (after.put.is_cut ≡ false)
+ended_uncut anew frame (Ok x) before after s = s.whole.0
+ended_uncut anew frame (Err e) before after s = tt
 
 -- a terminal shows the desk whose frame was drawn
-pub shows_drawn : (desk : Seen) (r : Result (Unit {0}) SinkError) (before : Output) → ShowsFrame (frame_now desk) r before desk.out → desk.out.put.is_cut ≡ false → ShowsLast desk.out → ShowsDesk desk
-shows_drawn desk r before s uncut last bytes known =
-    let is = shown_whole (frame_now desk) r before desk.out s uncut in
+pub shows_drawn : (anew : Bool) (desk : Seen) (r : Result (Unit {0}) SinkError) (before : Output) → ShowsFrame anew (frame_now desk) r before desk.out → desk.out.put.is_cut ≡ false → ShowsLast desk.out → ShowsDesk desk
+shows_drawn anew desk r before s uncut last bytes known =
+    let is = shown_whole anew (frame_now desk) r before desk.out s uncut in
     subst (λ (d : Display). ShowsOverAny bytes d.grid) is (last (ap (λ (d : Display). d.has_drawn) is) bytes known)
+
+-- something is written down behind an entry and what it is followed by
+pub followed_written : (calls faults : ℕ) (done : Deed) (job : Option Running) (e : Entry) (older : List Entry) → none_before (entries_with_event calls faults (event_of done job) (e ∷ older)) ≡ false
+followed_written calls faults deed.Nothing job e older = refl
+followed_written calls faults deed.Refuse job e older = refl
+followed_written calls faults deed.End job e older = refl
+followed_written calls faults (deed.Begin confirmed) job e older = refl
+followed_written calls faults (deed.Answer answer) None e older = refl
+followed_written calls faults (deed.Answer answer) (Some live) e older = refl
 
 -- what is written down of a request tells of no trouble
 pub waits_followed : (calls faults : ℕ) (done : Deed) (job : Option Running) (newest : List Entry) → waits_told (entries_with_event calls faults (event_of done job) newest) ≡ waits_told newest

@@ -1,6 +1,7 @@
 -- A job that is done with a source goes on with the next one, and that is written down.
 use Rattle.std.proofs.Common.{◌≡◌, ℕ, ◌≤◌, true, false, List, [], ◌∷◌, length, refl, sym, ◌∙◌, ap, subst, inl, inr, Option, Some, None, arith}
 use Rattle.std.specs.Prelude.{option_and_then}
+use Rattle.mc_desk.specs.Shown.{none_before}
 use Rattle.std.specs.Option.{option_map}
 use Rattle.mc_text.specs.Routes.{Route}
 use Rattle.tree_trait.specs.Change.{CallLog}
@@ -137,7 +138,7 @@ module _ (start : Option Start) (opening contents contents_after : Option CallLo
       (ap (λ (s : Screen). s.planned) screen ∙ desk.settled) (λ h. ap (λ (t : Tally). t.closed) tally ∙ desk.lost (sym (ap (λ (t : Tally). t.lost) tally) ∙ h))
       (λ h. ap (λ (t : Tally). t.due) tally ∙ desk.asked (sym quit ∙ h))
       (λ h. ap (λ (t : Tally). t.due) tally ∙ desk.shut (sym (ap (λ (t : Tally). t.closed) tally) ∙ h)) room
-      (shown_stepping old new live desk.shown desk.written.tally told_is ready (ap (λ (t : Tally). t.closed) tally) (ap (λ (t : Tally). t.due) tally) out screen)
+      (shown_stepping old new live desk.shown desk.written.tally told_is ready (ap (λ (t : Tally). t.closed) tally) (ap (λ (t : Tally). t.due) tally) out screen (ap none_before more))
 
 -- There is no memory to go on after a step that left all as it was: that which finished a source, or told that a folder is merged.
 pub desk_short : (start : Option Start) (opening contents contents_after : Option CallLog) (faults : ℕ) (old new : Seen) (seat count calls before after : ℕ) (live stepped : Running) → seat ≡ 0 → IsDesk start opening contents faults old

@@ -43,6 +43,7 @@ use Rattle.mc_ui.specs.Seekings.{is_seeking}
 use Rattle.mc_desk.specs.Sessions.{MayWork}
 use Rattle.mc_desk.specs.Searches.{HasSought}
 use Rattle.job_sources.specs.Turning.{finishes}
+use Rattle.mc_desk.specs.Redrawing.{asks_anew}
 use Rattle.mc_desk.specs.Shown.{DrawsFrame, PutsNothing, frame_due, none_before}
 use Rattle.mc_desk.specs.Desks.{Seen, kept_room, IsShown, IsWritten, IsDesk, noted_screen, state_of}
 use Rattle.mc_desk.proofs.Showing.{shown_closed, shown_stepping}
@@ -146,7 +147,7 @@ module _ (start : Option Start) (opening contents contents_after : Option CallLo
     -- a key that was worked
     pub desk_keyed : new.newest ≡ entry 0 old.tally.calls count shown (Key key now refusals false) ∷ old.newest → new.tally ≡ old.tally → new.job ≡ old.job → new.tally.job ≡ option_map told_job new.job
         → KeyWorks contents (rows_told old.newest) (next_id old.tally.last) now key refusals (noted_screen old) (noted_screen new) → new.dirty ≡ old.dirty → new.later ≡ old.later
-        → DrawsFrame (none_before old.newest) (frame_due (noted_screen new) (next_id old.tally.last) (rows_told old.newest)) shown old.out.put new.out.put → IsDesk start opening contents_after faults new
+        → DrawsFrame (asks_anew key || none_before old.newest) (frame_due (noted_screen new) (next_id old.tally.last) (rows_told old.newest)) shown old.out.put new.out.put → IsDesk start opening contents_after faults new
     desk_keyed more is job tells works dirty left draws =
         desk_of start opening contents_after faults new
         (written_more faults old new _ start opening contents contents_after desk.written
@@ -163,12 +164,12 @@ module _ (start : Option Start) (opening contents contents_after : Option CallLo
     keyed screen = record old { newest = entry 0 old.tally.calls count shown (Key key now refusals false) ∷ old.newest; screen = screen; out = new.out }
 
     keyed_written : (screen : Screen) → KeyWorks contents (rows_told old.newest) (next_id old.tally.last) now key refusals (noted_screen old) screen
-        → DrawsFrame (none_before old.newest) (frame_due screen (next_id old.tally.last) (rows_told old.newest)) shown old.out.put new.out.put → IsWritten start opening contents_after faults (keyed screen)
+        → DrawsFrame (asks_anew key || none_before old.newest) (frame_due screen (next_id old.tally.last) (rows_told old.newest)) shown old.out.put new.out.put → IsWritten start opening contents_after faults (keyed screen)
     keyed_written screen works draws =
         written_more faults old (keyed screen) _ start opening contents contents_after desk.written
         (adds_key contents contents_after faults old (keyed screen) 0 count shown refl key now refusals refl refl refl desk.written.told unclosed looked sought (unlost start opening contents faults old desk unclosed) desk.settled same later fault
         refused (subst (λ s. KeyWorks contents (rows_told old.newest) (next_id old.tally.last) now key refusals (noted_screen old) s) (sym (unasked_screen (keyed screen) unasked)) works) unasked refl refl
-        (subst (λ s. DrawsFrame (none_before old.newest) (frame_due s (next_id old.tally.last) (rows_told old.newest)) shown old.out.put new.out.put) (sym (unasked_screen (keyed screen) unasked)) draws))
+        (subst (λ s. DrawsFrame (asks_anew key || none_before old.newest) (frame_due s (next_id old.tally.last) (rows_told old.newest)) shown old.out.put new.out.put) (sym (unasked_screen (keyed screen) unasked)) draws))
 
     -- a key that confirmed a job, and the job that it begins
     pub desk_began : (plan : Job) (background : Bool) (run : Running) (id began_count : ℕ) → run.id ≡ id → next_id old.tally.last ≡ Some run.id → old.job ≡ None → are_workable plan ≡ true
@@ -176,7 +177,7 @@ module _ (start : Option Start) (opening contents contents_after : Option CallLo
         → new.newest ≡ entry 0 old.tally.calls began_count 0 (Began id plan background) ∷ (entry 0 old.tally.calls count shown (Key key now refusals false) ∷ old.newest)
         → count ≤ began_count → new.job ≡ Some run → new.tally ≡ record old.tally { job = Some (told_job run); last = id; due = Some id } → new.quit ≡ old.quit → new.dirty ≡ old.dirty → new.later ≡ rest_of (sources_of plan)
         → KeyWorks contents (rows_told old.newest) (next_id old.tally.last) now key refusals (noted_screen old) (record new.screen { planned = Some (Begins plan background) })
-        → DrawsFrame (none_before old.newest) (frame_due (record new.screen { planned = Some (Begins plan background) }) (next_id old.tally.last) (rows_told old.newest)) shown old.out.put new.out.put → IsDesk start opening contents_after faults new
+        → DrawsFrame (asks_anew key || none_before old.newest) (frame_due (record new.screen { planned = Some (Begins plan background) }) (next_id old.tally.last) (rows_told old.newest)) shown old.out.put new.out.put → IsDesk start opening contents_after faults new
     desk_began plan background run id began_count number numbered idle workable started more counted job is quit dirty left works draws =
         let written = keyed_written screen works draws in
         desk_of start opening contents_after faults new
@@ -197,7 +198,7 @@ module _ (start : Option Start) (opening contents contents_after : Option CallLo
         → count ≤ order_count → new.job ≡ Some (answered_job answer live)
         → new.tally ≡ record old.tally { job = Some (told_job (answered_job answer live)); due = Some live.id } → new.quit ≡ old.quit → new.dirty ≡ old.dirty → new.later ≡ old.later
         → KeyWorks contents (rows_told old.newest) (next_id old.tally.last) now key refusals (noted_screen old) (record new.screen { planned = Some (Answers answer) })
-        → DrawsFrame (none_before old.newest) (frame_due (record new.screen { planned = Some (Answers answer) }) (next_id old.tally.last) (rows_told old.newest)) shown old.out.put new.out.put → IsDesk start opening contents_after faults new
+        → DrawsFrame (asks_anew key || none_before old.newest) (frame_due (record new.screen { planned = Some (Answers answer) }) (next_id old.tally.last) (rows_told old.newest)) shown old.out.put new.out.put → IsDesk start opening contents_after faults new
     desk_ordered answer live order_count was takes more counted job is quit dirty left works draws =
         let written = keyed_written screen works draws in
         desk_of start opening contents_after faults new
@@ -233,20 +234,20 @@ desk_closed start opening contents faults old new count desk unclosed later more
 }
 
 -- a look, written down
-pub desk_looked : (start : Option Start) (opening contents contents_after : Option CallLog) (faults : ℕ) (old new : Seen) (count shown : ℕ) (refusals : List Refusal) (rows : List JobRow) (news : Option Message) → rows ≡ rows_of old.job (waits_told old.newest) → news ≡ news_left old.newest → IsDesk start opening contents faults old
+pub desk_looked : (start : Option Start) (opening contents contents_after : Option CallLog) (faults : ℕ) (old new : Seen) (count shown : ℕ) (now : ℕ) (refusals : List Refusal) (rows : List JobRow) (news : Option Message) → rows ≡ rows_of old.job (waits_told old.newest) → news ≡ news_left old.newest → IsDesk start opening contents faults old
     → old.tally.closed ≡ false → IsSome old.tally.due → contents_after ≡ contents → faults_in faults old.newest ≤ count → (has_fault refusals ≡ true → HasRisen (faults_in faults old.newest) count)
-    → IfKnown contents (λ log. AreRefused log refusals) → LookLeads contents rows old.tally.has_unseen_end news refusals old.screen new.screen
+    → IfKnown contents (λ log. AreRefused log refusals) → LookLeads contents rows now old.tally.has_unseen_end news refusals old.screen new.screen
     → new.newest ≡ entry 0 old.tally.calls count shown (Look refusals) ∷ old.newest
     → new.tally ≡ record old.tally { has_unseen_end = false; due = if can_step old.tally.job then old.tally.due else None } → new.job ≡ old.job → new.tally.job ≡ option_map told_job new.job
     → new.screen.planned ≡ None → new.quit ≡ old.quit → 2 ≤ new.spare → new.dirty ≡ old.dirty → new.later ≡ old.later → old.quit ≡ false → IsShown new
     → DrawsFrame (none_before old.newest) (frame_due (noted_screen new) (next_id old.tally.last) (rows_told old.newest)) shown old.out.put new.out.put
     → IsDesk start opening contents_after faults new
-desk_looked start opening contents contents_after faults old new count shown refusals rows news rows_is news_is desk unclosed is_due same later fault refused leads more is job tells settled quit room dirty left unasked shown_now draws =
+desk_looked start opening contents contents_after faults old new count shown now refusals rows news rows_is news_is desk unclosed is_due same later fault refused leads more is job tells settled quit room dirty left unasked shown_now draws =
     desk_of start opening contents_after faults new
     (written_more faults old new _ start opening contents contents_after desk.written
-    (adds_look contents contents_after faults old new 0 count shown refl refusals more is job tells unclosed is_due desk.settled same later fault refused
-    (subst (λ rs. LookLeads contents rs old.tally.has_unseen_end (news_left old.newest) refusals old.screen new.screen) (rows_is ∙ sym (rows_are start opening contents faults old desk.written))
-    (subst (λ p. LookLeads contents rows old.tally.has_unseen_end p refusals old.screen new.screen) news_is leads)) quit unasked dirty left draws))
+    (adds_look contents contents_after faults old new 0 count shown refl now refusals more is job tells unclosed is_due desk.settled same later fault refused
+    (subst (λ rs. LookLeads contents rs now old.tally.has_unseen_end (news_left old.newest) refusals old.screen new.screen) (rows_is ∙ sym (rows_are start opening contents faults old desk.written))
+    (subst (λ p. LookLeads contents rows now old.tally.has_unseen_end p refusals old.screen new.screen) news_is leads)) quit unasked dirty left draws))
     settled (λ h. ap (λ (t : Tally). t.closed) is ∙ desk.lost (sym (ap (λ (t : Tally). t.lost) is) ∙ h)) (λ h. absurd (let no = unasked in cc)) (λ h. absurd (let shut = ap (λ (t : Tally). t.closed) is in cc)) room shown_now
 
 -- the steps of a search, written down
@@ -289,7 +290,7 @@ desk_stepped start opening contents contents_after faults old new seat count mad
     (ap (λ (s : Screen). s.planned) screen ∙ desk.settled) (λ h. ap (λ (t : Tally). t.closed) tally ∙ desk.lost (sym (ap (λ (t : Tally). t.lost) tally) ∙ h))
     (λ h. ap (λ (t : Tally). t.due) tally ∙ desk.asked (sym quit ∙ h))
     (λ h. ap (λ (t : Tally). t.due) tally ∙ desk.shut (sym (ap (λ (t : Tally). t.closed) tally) ∙ h)) room
-    (shown_stepping old new live desk.shown desk.written.tally (desk.written.told ∙ ap (option_map told_job) is) ready (ap (λ (t : Tally). t.closed) tally) (ap (λ (t : Tally). t.due) tally) out screen)
+    (shown_stepping old new live desk.shown desk.written.tally (desk.written.told ∙ ap (option_map told_job) is) ready (ap (λ (t : Tally). t.closed) tally) (ap (λ (t : Tally). t.due) tally) out screen (ap none_before more))
 
 pub room_left : (closed : Bool) (job : Option Running) (live : Running) (spare reserved left : ℕ) → job ≡ Some live → kept_room closed job ≤ spare → spare ≤ reserved → reserved ≤ left + 1 → kept_room closed None ≤ left
 room_left closed job live spare reserved left is had kept noted = go closed (subst (λ j. kept_room closed j ≤ spare) is had)
@@ -305,7 +306,7 @@ pub desk_gave_up : (start : Option Start) (opening contents contents_after : Opt
     → new.job ≡ None → new.tally ≡ record old.tally { job = None; has_unseen_end = true } → new.screen ≡ old.screen → new.quit ≡ old.quit → kept_room old.tally.closed None ≤ new.spare → new.dirty ≡ old.dirty → new.later ≡ []
     → new.out ≡ old.out → IsDesk start opening contents_after faults new
 desk_gave_up start opening contents contents_after faults old new seat count live part same main desk is ready part_is later more job tally screen quit room dirty left out = record {
-  shown = shown_stepping old new live desk.shown desk.written.tally (desk.written.told ∙ ap (option_map told_job) is) ready (ap (λ (t : Tally). t.closed) tally) (ap (λ (t : Tally). t.due) tally) out screen;
+  shown = shown_stepping old new live desk.shown desk.written.tally (desk.written.told ∙ ap (option_map told_job) is) ready (ap (λ (t : Tally). t.closed) tally) (ap (λ (t : Tally). t.due) tally) out screen (ap none_before more);
   written = written_more faults old new _ start opening contents contents_after desk.written
       (adds_given_up contents contents_after faults old new seat count 0 main live part is desk.written.told ready part_is more job tally desk.settled same later screen quit dirty (ap (λ (o : Output). o.put) out) left);
   settled = ap (λ (s : Screen). s.planned) screen ∙ desk.settled;

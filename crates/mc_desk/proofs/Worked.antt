@@ -1,6 +1,6 @@
 -- A key that was worked, and what it asked for carried out, leave a whole desk.
-use Rattle.std.proofs.Common.{◌≡◌, ℕ, ◌≤◌, ◌∷◌, ◌++◌, Bool, true, false, List, [], refl, sym, inl, inr, Result, ◌∙◌, ap, subst, Option, Some, None, arith}
-use Rattle.std.specs.Prelude.{if◌then◌else◌, not, IsOk}
+use Rattle.std.proofs.Common.{◌≡◌, ℕ, ◌≤◌, ◌∷◌, ◌++◌, Bool, true, false, List, [], refl, sym, Result, ◌∙◌, ap, subst, Option, Some, None, arith}
+use Rattle.std.specs.Prelude.{if◌then◌else◌, not, ◌&&◌, ◌||◌, IsOk}
 use Rattle.std.specs.Option.{option_map}
 use Rattle.std.proofs.lemmas.Bool.{false≢true}
 use Rattle.key_screen.specs.Grids.{CellGrid}
@@ -38,10 +38,11 @@ use Rattle.mc_desk.specs.declared.standing.Standing.{Standing}
 use Rattle.mc_desk.specs.Granting.{CanBeDone, IsWorked, KeyWorks, with_deed}
 use Rattle.session_log.specs.Told.{waits_told}
 use Rattle.mc_desk.specs.LiveRows.{question_in, row_of, rows_of, rows_told, state_with, trouble_in}
+use Rattle.session_entries.specs.declared.history.Entry.{Entry}
 use Rattle.session_log.specs.Logs.{Logged, entries_with_event}
 use Rattle.mc_desk.specs.Outputs.{FitsScreen, Output, ShowsFrame}
-use Rattle.mc_desk.specs.Shown.{DrawsBehind, DrawsFrame, begun_rows, frame_at, frame_due, ready_row, rows_then, none_before}
-use Rattle.mc_desk.specs.DeskDevices.{Put}
+use Rattle.mc_desk.specs.Redrawing.{asks_anew}
+use Rattle.mc_desk.specs.Shown.{DrawsFrame, begun_rows, frame_at, frame_due, ready_row, rows_then, none_before}
 use Rattle.screen_draw.specs.Drawings.{Display}
 use Rattle.mc_ui.specs.Frames.{frame_of}
 use Rattle.mc_desk.specs.Standings.{MayCarryOut, after_answer, after_deed, awaited_look, event_of, order_of}
@@ -50,7 +51,7 @@ use Rattle.mc_desk.specs.KeysAndFaults.{faults_in}
 use Rattle.mc_desk.specs.Desks.{IsDesk, IsShown, Seen, seen_of, with_end}
 use Rattle.mc_desk.proofs.Adding.{entry, unasked_screen}
 use Rattle.mc_desk.proofs.Answering.{none_of}
-use Rattle.mc_desk.proofs.Showing.{shown_drawn, shown_whole}
+use Rattle.mc_desk.proofs.Showing.{followed_written, shown_drawn, shown_whole}
 use Rattle.mc_desk.proofs.Whole.{answers_live, desk_began, desk_keyed, desk_ordered, rows_are}
 
 module _ (start : Option Start) (opening contents : Option CallLog) (faults : ℕ) (desk : Seen) (whole : IsDesk start opening contents faults desk) (rows : List JobRow)
@@ -73,31 +74,21 @@ module _ (start : Option Start) (opening contents : Option CallLog) (faults : �
   may_carry_out next (deed.Answer answer) can =
       let here = live_of answer can in (here.0, here.1, answers_live start opening contents faults desk here.0 answer whole.written here.1 here.2)
 
--- drawing is sparse where something was drawn before
-first_or_later : (is_first other : Bool) (frame : CellGrid) (earlier drawn : List ℕ) → (other ≡ false → is_first ≡ false) → DrawsBehind is_first earlier frame drawn → DrawsBehind other earlier frame drawn
-first_or_later is_first other frame earlier drawn later d = record { shows = d.shows; sparse = λ h. d.sparse (later h) }
+not_twice : (b : Bool) → not (not b) ≡ b
+not_twice true = refl
+not_twice false = refl
 
-pub draws_as : (is_first other : Bool) (frame : CellGrid) (shown : ℕ) (before after : Put) → (other ≡ false → is_first ≡ false) → DrawsFrame is_first frame shown before after → DrawsFrame other frame shown before after
-draws_as is_first other frame shown before after later d = record {
-  uncut = d.uncut;
-  drawn = elim d.drawn [
-    | inl p ↦ inl (record { whole = p.whole; bytes = λ earlier known. let b = p.bytes earlier known in (b.0, b.1, b.2, first_or_later is_first other frame earlier b.0 later b.3) })
-    | inr c ↦
-        inr (record {
-          cut = c.cut;
-          bytes = λ earlier known.
-              let b = c.bytes earlier known in (b.0, elim b.1 [ inl same ↦ inl same | inr some ↦ inr (some.0, some.1, some.2, first_or_later is_first other frame earlier some.0 later some.3) ]);
-        })
-  ];
-  untold = d.untold;
-}
+-- a drawing is of all where it is asked to be, and where nothing was written down
+all_as_written : (anew has_drawn none : Bool) → has_drawn ≡ not none → not (not anew && has_drawn) ≡ (anew || none)
+all_as_written true has_drawn none is = refl
+all_as_written false has_drawn none is = ap not is ∙ not_twice none
 
 -- a drawing by a desk, as it is written down
-pub draws_written : (desk : Seen) (frame due : CellGrid) (r : Result (Unit {0}) SinkError) (out_after : Output) → IsShown desk → desk.tally.closed ≡ false → ShowsFrame frame r desk.out out_after → frame ≡ due
-    → DrawsFrame (none_before desk.newest) due out_after.shown desk.out.put out_after.put
-draws_written desk frame due r out_after shown unclosed s same =
-    subst (λ f. DrawsFrame (none_before desk.newest) f out_after.shown desk.out.put out_after.put) same
-    (draws_as (not desk.out.display.has_drawn) (none_before desk.newest) frame out_after.shown desk.out.put out_after.put (λ some. ap not (shown.drawn unclosed s.drawn.uncut some)) s.drawn)
+pub draws_written : (anew : Bool) (desk : Seen) (frame due : CellGrid) (r : Result (Unit {0}) SinkError) (out_after : Output) → IsShown desk → desk.tally.closed ≡ false → ShowsFrame anew frame r desk.out out_after → frame ≡ due
+    → DrawsFrame (anew || none_before desk.newest) due out_after.shown desk.out.put out_after.put
+draws_written anew desk frame due r out_after shown unclosed s same =
+    subst (λ f. DrawsFrame (anew || none_before desk.newest) f out_after.shown desk.out.put out_after.put) same
+    (subst (λ b. DrawsFrame b frame out_after.shown desk.out.put out_after.put) (all_as_written anew desk.out.display.has_drawn (none_before desk.newest) (shown.drawn unclosed s.drawn.uncut)) s.drawn)
 
 -- a job that waits for nothing has the row of one that is ready, whatever was told of it
 ready_is : (job : Running) (t told : Option Waits) → waits_on job.course ≡ false → row_of job t ≡ ready_row (row_of job told)
@@ -271,39 +262,46 @@ module _ (start : Option Start) (opening contents contents_after : Option CallLo
 
   -- what the terminal shows of it
   abbrev pub Shown : Deed → Type 0
-  Shown done = ShowsFrame (frame_of screen_after (rows_of (after_deed done was).job (waits_told log.newest))) r out out_after
+  Shown done = ShowsFrame (asks_anew key) (frame_of screen_after (rows_of (after_deed done was).job (waits_told log.newest))) r out out_after
 
-  shows_new : (standing : Standing) → FitsScreen out_after.display.grid screen_after → ShowsFrame (frame_of screen_after (rows_of standing.job (waits_told log.newest))) r out out_after
+  shows_new : (standing : Standing) → FitsScreen out_after.display.grid screen_after → none_before log_after.newest ≡ false → ShowsFrame (asks_anew key) (frame_of screen_after (rows_of standing.job (waits_told log.newest))) r out out_after
       → waits_told log_after.newest ≡ waits_told log.newest → (standing.closed ≡ false → awaited_look standing.due ≡ None → can_step (option_map told_job standing.job) ≡ false) → IsShown (new standing)
-  shows_new standing fits s same still =
-      shown_drawn (new standing) fits
+  shows_new standing fits written s same still =
+      shown_drawn (new standing) written fits
       (subst (λ t. out_after.put.is_cut ≡ false → out_after.display ≡ (let d : Display = record { grid = frame_of screen_after (rows_of standing.job t); has_drawn = true } in d)) (sym same)
-      (shown_whole (frame_of screen_after (rows_of standing.job (waits_told log.newest))) r out out_after s))
+      (shown_whole (asks_anew key) (frame_of screen_after (rows_of standing.job (waits_told log.newest))) r out out_after s))
       still
 
   drawn_for : (done : Deed) → IsWorked contents rows (next_id was.last_id) now key screen screen_after done refusals → Shown done
-      → DrawsFrame (none_before log.newest) (due_of done) shown out.put out_after.put
-  drawn_for done w s = draws_written old (frame_of screen_after (rows_of (after_deed done was).job (waits_told log.newest))) (due_of done) r out_after desk.shown unclosed s (frame_as done w)
+      → DrawsFrame (asks_anew key || none_before log.newest) (due_of done) shown out.put out_after.put
+  drawn_for done w s = draws_written (asks_anew key) old (frame_of screen_after (rows_of (after_deed done was).job (waits_told log.newest))) (due_of done) r out_after desk.shown unclosed s (frame_as done w)
 
   -- where nothing is asked for, what is written down of the end is noted on the screen
-  drawn_noted : DrawsFrame (none_before log.newest) (frame_due screen_after (next_id was.last_id) (rows_told log.newest)) shown out.put out_after.put
-      → DrawsFrame (none_before log.newest) (frame_due (with_end was.quit screen_after) (next_id was.last_id) (rows_told log.newest)) shown out.put out_after.put
-  drawn_noted d = subst (λ b. DrawsFrame (none_before log.newest) (frame_due (with_end b screen_after) (next_id was.last_id) (rows_told log.newest)) shown out.put out_after.put) (sym unasked) d
+  drawn_noted : DrawsFrame (asks_anew key || none_before log.newest) (frame_due screen_after (next_id was.last_id) (rows_told log.newest)) shown out.put out_after.put
+      → DrawsFrame (asks_anew key || none_before log.newest) (frame_due (with_end was.quit screen_after) (next_id was.last_id) (rows_told log.newest)) shown out.put out_after.put
+  drawn_noted d = subst (λ b. DrawsFrame (asks_anew key || none_before log.newest) (frame_due (with_end b screen_after) (next_id was.last_id) (rows_told log.newest)) shown out.put out_after.put) (sym unasked) d
+
+  -- the key is written down
+  abbrev key_entry : Entry
+  key_entry = entry 0 was.calls count shown (Key key now refusals false)
+
+  followed : (done : Deed) → log_after.newest ≡ entries_with_event was.calls count (event_of done was.job) (key_entry ∷ log.newest) → none_before log_after.newest ≡ false
+  followed done more = ap none_before more ∙ followed_written was.calls count done was.job key_entry log.newest
 
   pub desk_worked : (done : Deed) → IsWorked contents rows (next_id was.last_id) now key screen screen_after done refusals → FitsScreen out_after.display.grid screen_after → Shown done
       → log_after.newest ≡ entries_with_event was.calls count (event_of done was.job) (entry 0 was.calls count shown (Key key now refusals false) ∷ log.newest) → IsDesk start opening contents_after faults (new (after_deed done was))
   desk_worked deed.Nothing w fits s more =
       desk_keyed start opening contents contents_after faults old (new was) count shown key now desk unclosed unasked looked sought same later refusals fault refused w.settled room
-      (shows_new was fits s (ap waits_told more) desk.shown.still) more refl refl refl (still_noted w.works) refl refl (drawn_noted (drawn_for deed.Nothing w s))
+      (shows_new was fits (followed deed.Nothing more) s (ap waits_told more) desk.shown.still) more refl refl refl (still_noted w.works) refl refl (drawn_noted (drawn_for deed.Nothing w s))
   desk_worked deed.Refuse w fits s more =
       desk_keyed start opening contents contents_after faults old (new was) count shown key now desk unclosed unasked looked sought same later refusals fault refused w.settled room
-      (shows_new was fits s (ap waits_told more) desk.shown.still) more refl refl refl (still_noted w.works) refl refl (drawn_noted (drawn_for deed.Refuse w s))
+      (shows_new was fits (followed deed.Refuse more) s (ap waits_told more) desk.shown.still) more refl refl refl (still_noted w.works) refl refl (drawn_noted (drawn_for deed.Refuse w s))
   desk_worked deed.End w fits s more =
       desk_keyed start opening contents contents_after faults old (new (after_deed deed.End was)) count shown key now desk unclosed unasked looked sought same later refusals fault refused w.settled room
-      (shows_new (after_deed deed.End was) fits s (ap waits_told more) desk.shown.still) more refl refl refl (noted_works (with_deed deed.End screen_after) w.works) refl refl (drawn_for deed.End w s)
+      (shows_new (after_deed deed.End was) fits (followed deed.End more) s (ap waits_told more) desk.shown.still) more refl refl refl (noted_works (with_deed deed.End screen_after) w.works) refl refl (drawn_for deed.End w s)
   desk_worked (deed.Begin confirmed) w fits s more =
       desk_began start opening contents contents_after faults old (new (after_deed (deed.Begin confirmed) was)) count shown key now desk unclosed unasked looked sought same later refusals fault refused w.settled room
-      (shows_new (after_deed (deed.Begin confirmed) was) fits s (ap waits_told more) (λ unclosed none. absurd cc))
+      (shows_new (after_deed (deed.Begin confirmed) was) fits (followed (deed.Begin confirmed) more) s (ap waits_told more) (λ unclosed none. absurd cc))
       confirmed.plan confirmed.background confirmed.run confirmed.run.id count refl w.can.2 (none_of was.job (waits_told log.newest) (sym rows_is ∙ w.can.0)) w.can.1 confirmed.started more (omega arith) refl refl refl refl confirmed.rest
       (noted_works (with_deed (deed.Begin confirmed) screen_after) w.works) (drawn_for (deed.Begin confirmed) w s)
   desk_worked (deed.Answer answer) w fits s more =
@@ -313,7 +311,7 @@ module _ (start : Option Start) (opening contents contents_after : Option CallLo
       more ∙ ap (λ j. entries_with_event was.calls count (order_of answer j) (entry 0 was.calls count shown (Key key now refusals false) ∷ log.newest)) is in
       subst (λ s. IsDesk start opening contents_after faults (new s)) (sym (ap (λ j. after_answer answer j was) is))
       (desk_ordered start opening contents contents_after faults old (new (after_answer answer (Some here.0) was)) count shown key now desk unclosed unasked looked sought same later refusals fault refused w.settled room
-      (shows_new (after_answer answer (Some here.0) was) fits
-      (subst (λ j. ShowsFrame (frame_of screen_after (rows_of (after_answer answer j was).job (waits_told log.newest))) r out out_after) is s) (ap waits_told followed_is) (λ unclosed none. absurd cc))
+      (shows_new (after_answer answer (Some here.0) was) fits (followed (deed.Answer answer) more)
+      (subst (λ j. ShowsFrame (asks_anew key) (frame_of screen_after (rows_of (after_answer answer j was).job (waits_told log.newest))) r out out_after) is s) (ap waits_told followed_is) (λ unclosed none. absurd cc))
       answer here.0 count is here.2 followed_is (omega arith) refl refl refl refl refl
       (noted_works (with_deed (deed.Answer answer) screen_after) w.works) (drawn_for (deed.Answer answer) w s))

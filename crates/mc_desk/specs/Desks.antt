@@ -121,12 +121,12 @@ abbrev pub frame_now : Seen → CellGrid
 frame_now desk = frame_of desk.screen (rows_of desk.job (waits_told desk.newest))
 
 -- What the terminal of a desk shows, where no drawing was cut short and the desk isn't closed: something
--- was drawn, if anything was written down; and once nothing is to be looked at the frame of the desk, and
--- then its job can't be stepped.
+-- was drawn exactly where anything was written down; and once nothing is to be looked at the frame of the
+-- desk, and then its job can't be stepped.
 pub record IsShown (desk : Seen) : Type 0 where
   pub size : FitsScreen desk.out.display.grid desk.screen
-  pub drawn : desk.tally.closed ≡ false → desk.out.put.is_cut ≡ false → none_before desk.newest ≡ false
-      → desk.out.display.has_drawn ≡ true
+  pub drawn : desk.tally.closed ≡ false → desk.out.put.is_cut ≡ false
+      → desk.out.display.has_drawn ≡ not (none_before desk.newest)
   pub current : desk.tally.closed ≡ false → desk.out.put.is_cut ≡ false → desk.tally.due ≡ None
       → desk.out.display.grid ≡ frame_now desk
   pub still : desk.tally.closed ≡ false → desk.tally.due ≡ None → can_step desk.tally.job ≡ false

@@ -3,6 +3,7 @@ pub mod KeysTaken
 pub mod Granting
 pub mod LiveRows
 pub mod Outputs
+pub mod Redrawing
 pub mod Searches
 pub mod Sessions
 pub mod Shown

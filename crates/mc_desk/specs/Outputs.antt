@@ -1,5 +1,5 @@
 -- What a session's terminal keeps: what was put to it, and the frame that it shows.
-use Rattle.std.specs.Prelude.{◌≡◌, ℕ, ◌≤◌, Bool, true, false, not, List}
+use Rattle.std.specs.Prelude.{◌≡◌, ℕ, ◌≤◌, Bool, true, false, not, ◌&&◌, List}
 use Rattle.std.specs.Prelude.{[], length, Option, Result, OnOk, OnErr, Err}
 use Rattle.tree_trait.specs.Answers.{HasRisen, IfKnown}
 use Rattle.tree_trait.specs.declared.devices.SinkError.{SinkError}
@@ -36,14 +36,18 @@ pub record IsTerminal (given given_now : Option (List ℕ)) (faults faults_now :
   pub shows : out.put.is_cut ≡ false → out.display.has_drawn ≡ true
       → IfKnown out.put.bytes (λ bytes. ShowsOverAny bytes out.display.grid)
 
--- what a drawing makes of a terminal: it shows the frame, or the drawing was cut short and
--- the frame drawn last stays
-pub record ShowsFrame (frame : CellGrid) (result : Result (Unit {0}) SinkError)
+-- before a drawing of all nothing counts as drawn
+abbrev pub prepared : Bool → Display → Display
+prepared anew display = record display { has_drawn = not anew && display.has_drawn }
+
+-- what a drawing, of all or of what differs, makes of a terminal: it shows the frame, or the drawing was cut
+-- short and the frame drawn last stays
+pub record ShowsFrame (anew : Bool) (frame : CellGrid) (result : Result (Unit {0}) SinkError)
     (before after : Output) : Type 0 where
-  pub drawn : DrawsFrame (not before.display.has_drawn) frame after.shown before.put after.put
+  pub drawn : DrawsFrame (not (not anew && before.display.has_drawn)) frame after.shown before.put after.put
   pub whole : OnOk result ((after.put.is_cut ≡ false)
       × (after.display ≡ record { grid = frame; has_drawn = true }))
-  pub cut : OnErr result ((after.put.is_cut ≡ true) × (after.display ≡ before.display))
+  pub cut : OnErr result ((after.put.is_cut ≡ true) × (after.display.grid ≡ before.display.grid))
   pub sized : HasSizeOf before.display.grid after.display.grid
   pub failed : result ≡ Err Fault → after.failed ≡ true
 

@@ -41,7 +41,8 @@ use Rattle.mc_desk.specs.declared.starts.StartMode.TheVariants.{Panels, View}
 use Rattle.mc_desk.specs.Granting.{KeyWorks}
 use Rattle.mc_desk.specs.LiveRows.{rows_told}
 use Rattle.mc_desk.specs.Searches.{EventSeeks}
-use Rattle.mc_desk.specs.Shown.{EventDraws, frame_due, none_before}
+use Rattle.mc_desk.specs.Redrawing.{draws_anew}
+use Rattle.mc_desk.specs.Shown.{EventDraws, frame_due}
 use Rattle.mc_desk.specs.DeskDevices.{HasPutNothing, Put}
 use Rattle.session_log.specs.Told.{news_left}
 use Rattle.mc_desk.specs.Tallies.{Tally, tally, most_calls, next_id}
@@ -89,7 +90,8 @@ pub record IsOrdered (was : Before) (id : ℕ) (answer : Answer) (after : Screen
 -- What an event makes of the screen. A key that was lost is told without a refusal, and makes nothing. A
 -- look comes only where one is due: the first, which draws the opening frame, and after it one of the job
 -- that was begun or answered. It takes up a job's end, and tells what there is to tell of it, and shows the
--- question or the trouble of the live job as its newest report told it. A search goes on only where nothing
+-- question or the trouble of the live job as its newest report told it; its second is one of its own, which
+-- the clock said and no entry tells. A search goes on only where nothing
 -- is due (what its steps make of the screen, `EventSeeks` says). A step is one that the live job may make,
 -- and it goes on with a next source where it might report that it is finished.
 abbrev pub EventLeads : Before → Event → Screen → Type 0
@@ -99,7 +101,8 @@ EventLeads was (Key key now refusals false) after = TakesKey was.tally key was.s
     × KeyWorks was.contents was.rows (next_id was.tally.last) now key refusals was.screen after
 EventLeads was (Look refusals) after =
     (was.tally.closed ≡ false) × IsSome was.tally.due
-    × LookLeads was.contents was.rows was.tally.has_unseen_end was.news refusals was.screen after
+    × ((second : ℕ)
+    × LookLeads was.contents was.rows second was.tally.has_unseen_end was.news refusals was.screen after)
 EventLeads was Sought after =
     (was.tally.closed ≡ false) × (was.tally.due ≡ None) × (is_seeking was.screen ≡ true)
 EventLeads was (Began id plan background) after = IsBegun was id plan background after
@@ -203,7 +206,7 @@ pub record Enters (opening : Option CallLog) (faults : ℕ) (e : Entry) (older :
   pub sought : EventSeeks e.what was.contents (faults_in faults older) e.faults was.screen now.screen
   pub caused : IfKnown was.contents (HasCauses e.what)
   pub traced : Traces opening e older was.stand was.contents now.stand now.contents
-  pub draws : EventDraws e.what (none_before older)
+  pub draws : EventDraws e.what (draws_anew e.what older)
       (frame_due now.screen (next_id (last_id older)) (rows_told older)) e.shown was.put now.put
 
 -- panels that were just opened

@@ -17,7 +17,7 @@ use Rattle.copy_move.specs.Jobs.{begun_work}
 use Rattle.copy_move.specs.Told.{running}
 use Rattle.mc_desk.specs.LiveRows.{rows_of}
 use Rattle.mc_ui.specs.Screens.{Screen, Planned, Begins, Answers, Ends}
-use Rattle.screen_draw.specs.Drawings.{HasSizeOf, Shows}
+use Rattle.screen_draw.specs.Drawings.{BeginsClear, HasSizeOf, Shows}
 use Rattle.screen_draw.specs.Sparse.{IsSparse}
 use Rattle.mc_ui.specs.Frames.{frame_of}
 use Rattle.mc_desk.specs.DeskDevices.{Put}
@@ -33,33 +33,39 @@ abbrev pub ShowsOverAny : List ℕ → CellGrid → Type 0
 ShowsOverAny bytes frame = (earlier : List ℕ) (was : CellGrid) → Shows earlier was → HasSizeOf was frame
     → Shows (earlier ++ bytes) frame
 
--- These bytes draw a frame behind what was put before: each terminal shows it then. Unless they are the
--- first of the session they write only what differs from the frame that each shows before them.
-pub record DrawsBehind (is_first : Bool) (before : List ℕ) (frame : CellGrid) (bytes : List ℕ) : Type 0 where
+-- Bytes draw all of a frame: they clear the terminal first, and each shows the frame after these alone.
+pub record DrawsAll (frame : CellGrid) (bytes : List ℕ) : Type 0 where
+  pub clears : BeginsClear bytes
+  pub shows : ShowsOverAny bytes frame
+
+-- These bytes draw a frame behind what was put before: each terminal shows it then. Unless all is drawn
+-- anew they write only what differs from the frame that each shows before them.
+pub record DrawsBehind (is_anew : Bool) (before : List ℕ) (frame : CellGrid) (bytes : List ℕ) : Type 0 where
   pub shows : ShowsOverAny (before ++ bytes) frame
-  pub sparse : is_first ≡ false
+  pub all : is_anew ≡ true → DrawsAll frame bytes
+  pub sparse : is_anew ≡ false
       → (was : CellGrid) × HasSizeOf was frame × ShowsOverAny before was × IsSparse was frame bytes
 
 -- a drawing that ended: all of such bytes were put, and so many bytes are shown by now
-pub record PutsFrame (is_first : Bool) (frame : CellGrid) (shown : ℕ) (before after : Put) : Type 0 where
+pub record PutsFrame (is_anew : Bool) (frame : CellGrid) (shown : ℕ) (before after : Put) : Type 0 where
   pub whole : after.is_cut ≡ false
   pub bytes : IfKnown before.bytes (λ earlier. (drawn : List ℕ) × (after.bytes ≡ Some (earlier ++ drawn))
       × (shown ≡ length (earlier ++ drawn))
-      × DrawsBehind is_first earlier frame drawn)
+      × DrawsBehind is_anew earlier frame drawn)
 
 -- a drawing that was cut short: nothing was put, or a prefix of such bytes; those of the
 -- drawings that ended are shown
-pub record CutsFrame (is_first : Bool) (frame : CellGrid) (shown : ℕ) (before after : Put) : Type 0 where
+pub record CutsFrame (is_anew : Bool) (frame : CellGrid) (shown : ℕ) (before after : Put) : Type 0 where
   pub cut : after.is_cut ≡ true
   pub bytes : IfKnown before.bytes (λ earlier. (shown ≡ length earlier) × ((after.bytes ≡ Some earlier)
       ⊎ ((drawn : List ℕ) × (count : ℕ) × (after.bytes ≡ Some (earlier ++ take count drawn))
-      × DrawsBehind is_first earlier frame drawn)))
+      × DrawsBehind is_anew earlier frame drawn)))
 
 -- An entry that draws a frame: no drawing before it was cut short, and its own ended or was. A sink that
 -- told nothing never does.
-pub record DrawsFrame (is_first : Bool) (frame : CellGrid) (shown : ℕ) (before after : Put) : Type 0 where
+pub record DrawsFrame (is_anew : Bool) (frame : CellGrid) (shown : ℕ) (before after : Put) : Type 0 where
   pub uncut : before.is_cut ≡ false
-  pub drawn : PutsFrame is_first frame shown before after ⊎ CutsFrame is_first frame shown before after
+  pub drawn : PutsFrame is_anew frame shown before after ⊎ CutsFrame is_anew frame shown before after
   pub untold : before.bytes ≡ None → after.bytes ≡ None
 
 -- A lost key puts nothing, and its entry counts the bytes of the drawings before it,
@@ -76,16 +82,16 @@ pub record DrawsNothing (shown : ℕ) (before after : Put) : Type 0 where
 
 -- A key that was worked, a look and the steps of a search draw their frame; nothing else puts anything.
 abbrev pub EventDraws : Event → Bool → CellGrid → ℕ → Put → Put → Type 0
-EventDraws (Key key now refusals false) is_first frame shown before after =
-    DrawsFrame is_first frame shown before after
-EventDraws (Key key now refusals true) is_first frame shown before after = PutsNothing shown before after
-EventDraws (Look refusals) is_first frame shown before after = DrawsFrame is_first frame shown before after
-EventDraws Sought is_first frame shown before after = DrawsFrame is_first frame shown before after
-EventDraws (Began id plan background) is_first frame shown before after = DrawsNothing shown before after
-EventDraws (Order id order) is_first frame shown before after = DrawsNothing shown before after
-EventDraws (Step id did) is_first frame shown before after = DrawsNothing shown before after
-EventDraws (Next id plan) is_first frame shown before after = DrawsNothing shown before after
-EventDraws Closed is_first frame shown before after = DrawsNothing shown before after
+EventDraws (Key key now refusals false) is_anew frame shown before after =
+    DrawsFrame is_anew frame shown before after
+EventDraws (Key key now refusals true) is_anew frame shown before after = PutsNothing shown before after
+EventDraws (Look refusals) is_anew frame shown before after = DrawsFrame is_anew frame shown before after
+EventDraws Sought is_anew frame shown before after = DrawsFrame is_anew frame shown before after
+EventDraws (Began id plan background) is_anew frame shown before after = DrawsNothing shown before after
+EventDraws (Order id order) is_anew frame shown before after = DrawsNothing shown before after
+EventDraws (Step id did) is_anew frame shown before after = DrawsNothing shown before after
+EventDraws (Next id plan) is_anew frame shown before after = DrawsNothing shown before after
+EventDraws Closed is_anew frame shown before after = DrawsNothing shown before after
 
 -- the row of a job that was answered, and has a next step again
 abbrev pub ready_row : JobRow → JobRow

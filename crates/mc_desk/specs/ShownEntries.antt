@@ -12,7 +12,8 @@ use Rattle.key_screen.specs.Grids.{CellGrid}
 use Rattle.mc_desk.specs.declared.starts.Start.{Start}
 use Rattle.mc_desk.specs.LiveRows.{rows_told}
 use Rattle.mc_desk.specs.Sessions.{IsSession, SessionState}
-use Rattle.mc_desk.specs.Shown.{DrawsBehind, ShowsOverAny, frame_due, none_before}
+use Rattle.mc_desk.specs.Redrawing.{draws_anew}
+use Rattle.mc_desk.specs.Shown.{DrawsBehind, ShowsOverAny, frame_due}
 use Rattle.mc_desk.specs.Tallies.{next_id}
 
 -- a key that was worked, a look, and the steps of a search draw
@@ -58,7 +59,7 @@ pub record CutsEntry (start : Option Start) (opening : Option CallLog) (faults :
   pub ended : List ℕ
   pub counted : e.shown ≡ length ended
   pub put_is : (put ≡ ended) ⊎ ((drawn : List ℕ) × (count : ℕ) × (put ≡ ended ++ take count drawn)
-      × DrawsBehind (none_before older) ended frame drawn)
+      × DrawsBehind (draws_anew e.what older) ended frame drawn)
 
 -- of each entry that draws each terminal shows its frame, but for the last one where
 -- its drawing was cut short

@@ -3,9 +3,11 @@ ghost use Rattle.std.specs.Prelude.{◌≡◌, false};
 ghost use Rattle.session_log.specs.Told.{waits_told};
 ghost use Rattle.mc_desk.specs.LiveRows.{rows_of};
 ghost use Rattle.mc_desk.specs.Outputs.{FitsScreen, ShowsFrame};
+ghost use Rattle.mc_desk.specs.Redrawing.{is_anew};
 ghost use Rattle.mc_desk.specs.Standings.{MayCarryOut, after_deed, event_of};
 ghost use Rattle.mc_ui.specs.Frames.{frame_of};
 
+use crate::drawing::Drawing;
 use crate::granting::Deed;
 use crate::standing::Standing;
 use crate::tag::Tag;
@@ -27,6 +29,7 @@ pub struct Carried {
 pub fn carry_out<N: Tag, S: Sink>(
     alloc: Global,
     deed: Deed,
+    drawing: Drawing,
     ui: &Ui,
     log: &Log,
     standing: &mut Standing,
@@ -37,10 +40,11 @@ pub fn carry_out<N: Tag, S: Sink>(
     requires size { FitsScreen terminal.old.display.grid ui.now }
     ensures done { standing.new ≡ after_deed deed standing.old }
     ensures told { result.follows ≡ event_of deed standing.old.job }
-    ensures shows { ShowsFrame (frame_of ui.now (rows_of standing.new.job (waits_told log.now.newest)))
+    ensures shows { ShowsFrame (is_anew drawing)
+        (frame_of ui.now (rows_of standing.new.job (waits_told log.now.newest)))
         result.drawn terminal.old terminal.new }
 {
     let follows = standing.carry_out(deed);
-    let drawn = terminal.show(alloc, ui, &standing.job, log);
+    let drawn = terminal.show(alloc, drawing, ui, &standing.job, log);
     Carried { follows, drawn }
 }

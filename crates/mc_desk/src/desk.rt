@@ -118,10 +118,12 @@ impl<N: Tag, T: Tree, S: Sink, P: Spawner> Desk<N, T, S, P> {
         self.session.byte(alloc, byte, now)
     }
 
-    /// Takes up what the job did, and draws. After the job's end the panels are read again, and a message
+    /// Takes up what the job did at a second of the clock, by which times are told then, and draws. After the
+    /// job's end the panels are read again, and a message
     /// tells of it where memory ran out or a part was left. Where nothing is due the desk stays as it is:
     /// so one that is closed, or whose end was asked.
-    pub fn look(&mut self, alloc: Global) -> Result<(), DeskError>
+    pub fn look(&mut self, alloc: Global, now: u64) -> Result<(), DeskError>
+        ensures second { OnOk result (IsSome self.old.tally.due → self.new.screen.second ≡ now) }
         ensures shows { OnOk result (self.new.tally.closed ≡ false → ShowsDesk self.new) }
         ensures looked { OnOk result (can_step self.old.tally.job ≡ false → self.new.tally.due ≡ None) }
         ensures fails { IfErr result (λ error. FailsClosed error self.old self.new) }
@@ -131,7 +133,7 @@ impl<N: Tag, T: Tree, S: Sink, P: Spawner> Desk<N, T, S, P> {
         ensures dirty { self.new.dirty ≡ self.old.dirty }
         ensures screen_failed { BlamesScreen result self.new.out.failed }
     {
-        self.session.look(alloc)
+        self.session.look(alloc, now)
     }
 
     /// Makes steps of the search that goes on, to its end, or to where C-c waits in the source, or 50,000,

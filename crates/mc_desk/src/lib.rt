@@ -5,6 +5,7 @@ mod carrying;
 mod claims;
 mod confirmed;
 mod desk;
+mod drawing;
 mod granting;
 mod opening;
 mod replies;

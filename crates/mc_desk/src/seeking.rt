@@ -10,6 +10,7 @@ ghost use Rattle.mc_desk.specs.Outputs.{FitsScreen, ShowsFrame};
 ghost use Rattle.mc_desk.specs.Searches.{HasSought, KeepsSource, steps_ahead};
 ghost use Rattle.mc_desk.specs.Standings.{sought_entry as entry_of_steps};
 
+use crate::drawing::Drawing;
 use crate::tag::Tag;
 use crate::terminal::SessionTerminal;
 use copy_move::Run;
@@ -59,11 +60,11 @@ pub fn seek_and_show<N: Tag, T: ReadTree, K: Source, S: Sink>(
     ensures later { T.fault_count tree.old ≤ T.fault_count tree.new }
     ensures source { KeepsSource (K.left keys.old) (K.left keys.new) (K.fault_count keys.old)
         (K.fault_count keys.new) }
-    ensures shows { ShowsFrame (frame_of ui.new (rows_of job.now (waits_told log.now.newest))) result.drawn
-        terminal.old terminal.new }
+    ensures shows { ShowsFrame false (frame_of ui.new (rows_of job.now (waits_told log.now.newest)))
+        result.drawn terminal.old terminal.new }
 {
     let sought = seek_on(alloc, ui, tree, keys);
-    let drawn = terminal.show(alloc, ui, job, log);
+    let drawn = terminal.show(alloc, Drawing::Changes, ui, job, log);
     Shown { sought, drawn }
 }
 

@@ -3,10 +3,13 @@ ghost use Rattle.std.specs.Prelude.{◌≡◌, ◌+◌, ◌≤◌, ◌<◌, ◌^
 ghost use Rattle.session_log.specs.Told.{waits_told};
 ghost use Rattle.mc_desk.specs.LiveRows.{rows_of as rows_for};
 ghost use Rattle.mc_desk.specs.Outputs.{Blames, CountsAll, FitsScreen, IsFirstOutput, ShowsFrame, ShowsLast};
+ghost use Rattle.mc_desk.specs.Outputs.{prepared};
+ghost use Rattle.mc_desk.specs.Redrawing.{is_anew};
 ghost use Rattle.mc_desk.specs.DeskDevices.{HasGiven, put_since};
 ghost use Rattle.screen_draw.specs.Drawings.{HasSizeOf};
 ghost use Rattle.mc_ui.specs.Frames.{frame_of};
 
+use crate::drawing::Drawing;
 use crate::rows::rows_of;
 use crate::tag::Tag;
 use copy_move::Run;
@@ -66,14 +69,15 @@ impl<N: Tag, S: Sink> SessionTerminal<N, S> {
     pub fn show(
         &mut self,
         alloc: Global,
+        drawing: Drawing,
         ui: &Ui,
         job: &Option<Run>,
         log: &Log,
     ) -> Result<(), SinkError>
         requires uncut { self.old.put.is_cut ≡ false }
         requires size { FitsScreen self.old.display.grid ui.now }
-        ensures shows { ShowsFrame (frame_of ui.now (rows_for job.now (waits_told log.now.newest))) result
-            self.old self.new }
+        ensures shows { ShowsFrame (is_anew drawing)
+            (frame_of ui.now (rows_for job.now (waits_told log.now.newest))) result self.old self.new }
     {
         let Ok(rows) = rows_of(alloc, job, log) else {
             self.cut_short();
@@ -83,7 +87,7 @@ impl<N: Tag, S: Sink> SessionTerminal<N, S> {
             self.cut_short();
             return Err(SinkError::Memory);
         };
-        self.draw(alloc, &frame)
+        self.draw(alloc, drawing, &frame)
     }
 
     /// No memory was found for a drawing: it puts nothing.
@@ -96,15 +100,16 @@ impl<N: Tag, S: Sink> SessionTerminal<N, S> {
     }
 
     /// Draws a frame.
-    fn draw(&mut self, alloc: Global, frame: &Grid) -> Result<(), SinkError>
+    fn draw(&mut self, alloc: Global, drawing: Drawing, frame: &Grid) -> Result<(), SinkError>
         requires uncut { self.old.put.is_cut ≡ false }
         requires size { HasSizeOf self.old.display.grid frame.now }
-        ensures shows { ShowsFrame frame.now result self.old self.new }
+        ensures shows { ShowsFrame (is_anew drawing) frame.now result self.old self.new }
     {
         if self.shown > MOST_SHOWN {
             self.is_cut = true;
             return Err(SinkError::Memory);
         }
+        prepare(&mut self.screen, drawing);
         match self.screen.draw(alloc, frame, &mut self.sink) {
             Ok(count) => {
                 self.shown = with_bytes(self.shown, count);
@@ -139,6 +144,16 @@ impl<N: Tag, S: Sink> SessionTerminal<N, S> {
         ensures given { HasGiven N.given self.put.bytes (S.given result.0) }
     {
         (self.sink, self.failed)
+    }
+}
+
+/// Lets nothing count as drawn before a drawing of all.
+fn prepare(screen: &mut Screen, drawing: Drawing)
+    ensures { screen.new ≡ prepared (is_anew drawing) screen.old }
+{
+    match drawing {
+        Drawing::Changes => {}
+        Drawing::Anew => screen.forget(),
     }
 }
 

@@ -66,7 +66,7 @@ fn take_turn<N: Tag, T: Tree, K: Source, S: Sink, P: Spawner, C: Clock>(
     ensures quit { result ≡ Some SessionEnd.Quit → desk.new.quit ≡ true }
     ensures ended { result ≡ Some SessionEnd.KeysEnded → TookAll N.stream (K.left keys.new) }
 {
-    if let Err(error) = work_due(alloc, desk) {
+    if let Err(error) = work_due(alloc, desk, clock) {
         return Some(failed(error));
     }
     if let Err(error) = seek_till_stopped(alloc, desk, keys) {
@@ -111,9 +111,10 @@ fn take_byte<N: Tag, T: Tree, K: Source, S: Sink, P: Spawner>(
 }
 
 /// Works what is due before the next key: the job is stepped until it isn't ready, and looked at.
-fn work_due<N: Tag, T: Tree, S: Sink, P: Spawner>(
+fn work_due<N: Tag, T: Tree, S: Sink, P: Spawner, C: Clock>(
     alloc: Global,
     desk: &mut Desk<N, T, S, P>,
+    clock: &C,
 ) -> Result<(), DeskError>
     ensures keys { KeepsKeys desk.old desk.new }
     ensures over { OnOk result (is_over desk.new ≡ is_over desk.old) }
@@ -125,7 +126,7 @@ fn work_due<N: Tag, T: Tree, S: Sink, P: Spawner>(
             while desk.is_ready(job) {
                 desk.step(alloc, 0);
             }
-            desk.look(alloc)
+            desk.look(alloc, clock.now())
         }
     }
 }

@@ -394,13 +394,13 @@ looked_at waits news refusals panels before = record before {
   message = with_news news (with_refusal (first_refusal refusals) before.message);
 }
 
--- What a look makes of the screen: it takes up what the live job did. The panels are read again after a
--- job's end that was not taken up. The question or the trouble of a job that waits gets its box; what was
--- refused, and what is to be told of an end, a message.
-pub record LookLeads (contents : Option CallLog) (rows : List JobRow) (has_unseen_end : Bool)
+-- What a look at a second of the clock makes of the screen: it takes up what the live job did. The panels
+-- are read again after a job's end that was not taken up. The question or the trouble of a job that waits
+-- gets its box; what was refused, and what is to be told of an end, a message.
+pub record LookLeads (contents : Option CallLog) (rows : List JobRow) (now : ℕ) (has_unseen_end : Bool)
     (news : Option Message) (refusals : List Refusal) (before after : Screen) : Type 0 where
   pub panels : LooksAgain contents has_unseen_end (page_of before) refusals before.panels after.panels
-  pub after_is : after ≡ looked_at (shown_waits rows) news refusals after.panels before
+  pub after_is : after ≡ looked_at (shown_waits rows) news refusals after.panels (at_second now before)
 
 -- ASKS
 

@@ -78,6 +78,6 @@ fn settle(page: &mut Page, desk: &mut MuteDesk) {
                 desk.step(page.alloc(), 0);
             }
         }
-        page.need(desk.look(page.alloc()).is_ok());
+        page.need(desk.look(page.alloc(), 0).is_ok());
     }
 }

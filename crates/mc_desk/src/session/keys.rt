@@ -1,6 +1,6 @@
 //! Keys, looks and searches: what a session does for its user.
 ghost use Rattle.std.specs.Prelude.{◌≡◌, ◌+◌, ◌≤◌, ◌<◌, ◌∷◌, ◌++◌, [], ℕ, List, true, false};
-ghost use Rattle.std.specs.Prelude.{IsTrue, IfErr, IfOk, IsOk, OnOk, OnErr, Ok, Err, Some, None};
+ghost use Rattle.std.specs.Prelude.{IsTrue, IsSome, IfErr, IfOk, IsOk, OnOk, OnErr, Ok, Err, Some, None};
 ghost use Rattle.copy_move.specs.Told.{IsReady};
 ghost use Rattle.mc_desk.specs.Standings.{awaited_by, is_quit};
 ghost use Rattle.mc_desk.specs.Tallies.{can_step};
@@ -14,6 +14,7 @@ ghost use Rattle.mc_desk.specs.Searches.{KeepsSource, steps_ahead};
 
 use super::Session;
 use crate::carrying::{Carried, carry_out};
+use crate::drawing::{Drawing, drawing_after};
 use crate::granting::{Granted, work};
 use crate::replies::{DeskError, DeskReply};
 use crate::rows::rows_of;
@@ -75,11 +76,12 @@ impl<N: Tag, T: Tree, S: Sink, P: Spawner> Session<N, T, S, P> {
         }
     }
 
-    /// Takes up what the job did, and draws. After the job's end the panels are read again, and a message
-    /// tells of it where memory ran out or a part was left. Where nothing is due all stays as it is: so in
-    /// a session that is closed, or whose end was asked.
-    pub fn look(&mut self, alloc: Global) -> Result<(), DeskError>
+    /// Takes up what the job did at a second of the clock, and draws. After the job's end the panels are read
+    /// again, and a message tells of it where memory ran out or a part was left. Where nothing is due all stays
+    /// as it is: so in a session that is closed, or whose end was asked.
+    pub fn look(&mut self, alloc: Global, now: u64) -> Result<(), DeskError>
         requires uncut { IsUncut self.old }
+        ensures second { OnOk result (IsSome self.old.tally.due → self.new.screen.second ≡ now) }
         ensures shows { OnOk result (self.new.tally.closed ≡ false → ShowsDesk self.new) }
         ensures uncut { IsUncut self.new }
         ensures keys { KeepsKeys self.old self.new }
@@ -106,13 +108,17 @@ impl<N: Tag, T: Tree, S: Sink, P: Spawner> Session<N, T, S, P> {
         let has_unseen_end = self.standing.has_unseen_end;
         let Ok(refusals) = self
             .ui
-            .look(alloc, &mut self.tree, &rows, has_unseen_end, news)
+            .look(alloc, &mut self.tree, &rows, now, has_unseen_end, news)
         else {
             return Err(DeskError::Memory);
         };
-        let drawn = self
-            .terminal
-            .show(alloc, &self.ui, &self.standing.job, &self.log);
+        let drawn = self.terminal.show(
+            alloc,
+            Drawing::Changes,
+            &self.ui,
+            &self.standing.job,
+            &self.log,
+        );
         self.log.note(Entry {
             seat: 0,
             calls: self.standing.calls,
@@ -241,6 +247,7 @@ impl<N: Tag, T: Tree, S: Sink, P: Spawner> Session<N, T, S, P> {
         let Carried { follows, drawn } = carry_out(
             alloc,
             deed,
+            drawing_after(key),
             &self.ui,
             &self.log,
             &mut self.standing,

@@ -1,5 +1,5 @@
 //! Looks: what the screen takes up of what the live jobs did.
-ghost use Rattle.std.specs.Prelude.{◌≡◌, List, None, OnErr, IfOk};
+ghost use Rattle.std.specs.Prelude.{◌≡◌, List, None, OnErr, OnOk, IfOk};
 ghost use Rattle.std.specs.Option.{option_map};
 ghost use Rattle.panel_state.specs.Rereadings.{refusal_in};
 ghost use Rattle.panel_pair.specs.Looks.{IsRereadOf, LooksAgain as PanelsLookAgain, TakesReread, unread_of};
@@ -22,19 +22,22 @@ use ui_job_boxes::JobBox;
 use ui_words::Message;
 
 impl Ui {
-    /// Takes up what the live jobs did. After a job's end, which `has_unseen_end` says, each panel is read
-    /// again. A question or a trouble gets its box; what was refused, or the news of that end, a message.
+    /// Takes up what the live jobs did, at a second of the clock. After a job's end, which `has_unseen_end`
+    /// says, each panel is read again. A question or a trouble gets its box; what was refused, or the news of
+    /// that end, a message.
     /// It takes a look for each child of the folders that are read.
     pub fn look<T: ReadTree>(
         &mut self,
         alloc: Global,
         tree: &mut T,
         rows: &JobRows,
+        now: u64,
         has_unseen_end: bool,
         news: Option<Message>,
     ) -> Result<Refusals, NoMemory>
         ensures leads { IfOk result (λ refusals.
-            LookLeads (T.contents tree.old) rows.now has_unseen_end news refusals self.old self.new) }
+            LookLeads (T.contents tree.old) rows.now now has_unseen_end news refusals self.old self.new) }
+        ensures second { OnOk result (self.new.second ≡ now) }
         ensures size { HasSameSize self.old self.new }
         ensures settled { self.new.planned ≡ None }
         ensures lost { OnErr result (self.new ≡ self.old) }
@@ -47,6 +50,7 @@ impl Ui {
         let refusals = self.read_if_due(alloc, tree, has_unseen_end)?;
         self.show(waits);
         self.tell_news(news);
+        self.set_second(now);
         Ok(refusals)
     }
 

@@ -26,13 +26,13 @@ invariant_of-self-2 g c =
     let room : 2 ≤ c.note.new.self.spare = search rules in
     record {
       desk = looked_whole g.N.Tag.start g.N.Tag.opening (g.T.ReadTree.contents inside.tree) (g.T.ReadTree.contents c.look.new.tree) g.N.Tag.tree_faults _ c.note.new.self _ c.look.new.self inside.standing c.look_taken.new.self _ inside.terminal c.show-drawn.new.self _ _ count
-          c.self.invariant.desk opened.0 opened.1 some c.look.ensures.reads.same (omega (arith, counted, had, later)) c.in-Ok-look.refusals c.in-Ok-rows_of.rows c.in-Ok.news
+          c.self.invariant.desk opened.0 opened.1 some c.look.ensures.reads.same (omega (arith, counted, had, later)) c.args.now c.in-Ok-look.refusals c.in-Ok-rows_of.rows c.in-Ok.news
           (c.in-Ok-rows_of.ensures ∙ ap (λ es. rows_of inside.standing.job (waits_told es)) c.reserve.ensures.same) (c.in-Ok.ensures ∙ ap news_left c.reserve.ensures.same)
           (λ h. let risen = c.in-Ok-look.ensures.reads.fault h in omega (arith, counted, had, risen)) c.in-Ok-look.ensures.reads.called c.in-Ok-look.ensures.leads c.look.ensures.settled
           (c.note.ensures.added ∙ (ap (λ es. entry 0 inside.standing.calls count c.shown.result (Look c.in-Ok-look.refusals) ∷ es) c.reserve.ensures.same
           ∙ ap (λ n. entry 0 inside.standing.calls count n (Look c.in-Ok-look.refusals) ∷ inside.log.newest) c.shown.ensures.counted)) room c.look_taken.ensures c.show-drawn.result
           (fits_after inside.terminal.display.grid c.show-drawn.new.self.display.grid inside.ui c.look.new.self c.self.invariant.desk.shown.size c.show-drawn.ensures.shows.sized c.look.ensures.size)
-          (subst (λ es. ShowsFrame (frame_of c.look.new.self (rows_of inside.standing.job (waits_told es))) c.show-drawn.result inside.terminal c.show-drawn.new.self) c.reserve.ensures.same c.show-drawn.ensures.shows);
+          (subst (λ es. ShowsFrame false (frame_of c.look.new.self (rows_of inside.standing.job (waits_told es))) c.show-drawn.result inside.terminal c.show-drawn.new.self) c.reserve.ensures.same c.show-drawn.ensures.shows);
       counted = search rules;
       spawner = c.self.invariant.spawner;
     }
@@ -45,7 +45,10 @@ show-drawn-requires-clause-uncut g c =
     ap (λ (d : Seen). d.out.put.is_cut) c.self.view_is ∙ c.requires.uncut (sym (ap (λ (d : Seen). d.tally.closed) c.self.view_is) ∙ opened.0)
 
 pub after_draw-requires-clause-whole : goal.after_draw-requires-clause-whole
-after_draw-requires-clause-whole g c = ended_uncut _ c.show-drawn.result c.self.inside.terminal c.show-drawn.new.self c.show-drawn.ensures.shows
+after_draw-requires-clause-whole g c = ended_uncut false _ c.show-drawn.result c.self.inside.terminal c.show-drawn.new.self c.show-drawn.ensures.shows
+
+pub returns-clause-second : goal.returns-clause-second
+returns-clause-second g c some = ap (λ (d : Seen). d.screen.second) c.in_ok-after_draw.ensures.same ∙ c.in-Ok-look.ensures.second
 
 pub returns-clause-shows : goal.returns-clause-shows
 returns-clause-shows g c unclosed =
@@ -57,6 +60,6 @@ returns-clause-shows g c unclosed =
     let job : standing.job ≡ inside.standing.job = ap (λ (s : Standing). s.job) c.look_taken.ensures in
     let trouble : waits_told c.note.new.self.newest ≡ waits_told c.reserve.new.self.newest = ap waits_told c.note.ensures.added in
     subst ShowsDesk (sym same)
-    (shows_drawn desk c.show-drawn.result inside.terminal
-    (subst (λ j. ShowsFrame (frame_of c.look.new.self (rows_of j (waits_told c.note.new.self.newest))) c.show-drawn.result inside.terminal c.show-drawn.new.self) (sym job)
-    (subst (λ t. ShowsFrame (frame_of c.look.new.self (rows_of inside.standing.job t)) c.show-drawn.result inside.terminal c.show-drawn.new.self) (sym trouble) c.show-drawn.ensures.shows)) whole (c.shown.ensures.shows whole))
+    (shows_drawn false desk c.show-drawn.result inside.terminal
+    (subst (λ j. ShowsFrame false (frame_of c.look.new.self (rows_of j (waits_told c.note.new.self.newest))) c.show-drawn.result inside.terminal c.show-drawn.new.self) (sym job)
+    (subst (λ t. ShowsFrame false (frame_of c.look.new.self (rows_of inside.standing.job t)) c.show-drawn.result inside.terminal c.show-drawn.new.self) (sym trouble) c.show-drawn.ensures.shows)) whole (c.shown.ensures.shows whole))

@@ -32,7 +32,7 @@ invariant_of-self-2 g c =
           (c.note.ensures.added ∙ (ap (λ (e : Entry). e ∷ c.reserve.new.self.newest) c.sought_entry-entry.ensures ∙ ap (λ es. entry 0 inside.standing.calls count c.shown.result Sought ∷ es) c.reserve.ensures.same
           ∙ ap (λ n. entry 0 inside.standing.calls count n Sought ∷ inside.log.newest) c.shown.ensures.counted)) room c.seek_and_show-sought.result.drawn
           (fits_after inside.terminal.display.grid c.seek_and_show-sought.new.terminal.display.grid inside.ui c.seek_and_show-sought.new.ui c.self.invariant.desk.shown.size c.seek_and_show-sought.ensures.shows.sized c.seek_and_show-sought.ensures.size)
-          (subst (λ es. ShowsFrame (frame_of c.seek_and_show-sought.new.ui (rows_of inside.standing.job (waits_told es))) c.seek_and_show-sought.result.drawn inside.terminal c.seek_and_show-sought.new.terminal) c.reserve.ensures.same c.seek_and_show-sought.ensures.shows);
+          (subst (λ es. ShowsFrame false (frame_of c.seek_and_show-sought.new.ui (rows_of inside.standing.job (waits_told es))) c.seek_and_show-sought.result.drawn inside.terminal c.seek_and_show-sought.new.terminal) c.reserve.ensures.same c.seek_and_show-sought.ensures.shows);
       counted = search rules;
       spawner = c.self.invariant.spawner;
     }

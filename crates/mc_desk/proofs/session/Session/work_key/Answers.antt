@@ -8,6 +8,7 @@ use Rattle.mc_desk.specs.Sessions.{MayWork}
 use Rattle.session_log.specs.Told.{waits_told}
 use Rattle.mc_desk.specs.LiveRows.{rows_of}
 use Rattle.mc_desk.specs.Outputs.{ShowsFrame}
+use Rattle.mc_desk.specs.Redrawing.{asks_anew}
 use Rattle.mc_ui.specs.Frames.{frame_of}
 use Rattle.mc_desk.specs.declared.standing.Standing.{Standing}
 use Rattle.session_log.specs.Logs.{entries_with_event}
@@ -34,8 +35,10 @@ invariant_of-self-2 g c =
     let worked : IsWorked (g.T.ReadTree.contents inside.tree) c.in-Ok.rows (next_id inside.standing.last_id) c.args.now c.args.key inside.ui c.work.new.ui done.deed done.refusals =
     subst (λ n. IsWorked (g.T.ReadTree.contents inside.tree) c.in-Ok.rows n c.args.now c.args.key inside.ui c.work.new.ui done.deed done.refusals) c.next_id-next.ensures c.in-Ok-work.ensures.worked in
     let room : 2 ≤ c.note_after.new.self.spare = search rules in
-    let shows : ShowsFrame (frame_of c.work.new.ui (rows_of (after_deed done.deed inside.standing).job (waits_told inside.log.newest))) c.carry_out-follows.result.drawn inside.terminal c.carry_out-follows.new.terminal =
-    subst (λ (s : Standing). ShowsFrame (frame_of c.work.new.ui (rows_of s.job (waits_told inside.log.newest))) c.carry_out-follows.result.drawn inside.terminal c.carry_out-follows.new.terminal) c.carry_out-follows.ensures.done c.carry_out-follows.ensures.shows in
+    let asked : ShowsFrame (asks_anew c.args.key) (frame_of c.work.new.ui (rows_of c.carry_out-follows.new.standing.job (waits_told inside.log.newest))) c.carry_out-follows.result.drawn inside.terminal c.carry_out-follows.new.terminal =
+    subst (λ b. ShowsFrame b (frame_of c.work.new.ui (rows_of c.carry_out-follows.new.standing.job (waits_told inside.log.newest))) c.carry_out-follows.result.drawn inside.terminal c.carry_out-follows.new.terminal) c.drawing_after.ensures c.carry_out-follows.ensures.shows in
+    let shows : ShowsFrame (asks_anew c.args.key) (frame_of c.work.new.ui (rows_of (after_deed done.deed inside.standing).job (waits_told inside.log.newest))) c.carry_out-follows.result.drawn inside.terminal c.carry_out-follows.new.terminal =
+    subst (λ (s : Standing). ShowsFrame (asks_anew c.args.key) (frame_of c.work.new.ui (rows_of s.job (waits_told inside.log.newest))) c.carry_out-follows.result.drawn inside.terminal c.carry_out-follows.new.terminal) c.carry_out-follows.ensures.done asked in
     record {
       desk = subst (λ s. IsDesk g.N.Tag.start g.N.Tag.opening (g.T.ReadTree.contents c.work.new.tree) g.N.Tag.tree_faults (seen_of c.note_after.new.self c.work.new.ui s inside.dirty c.carry_out-follows.new.terminal inside.taken inside.keys))
           (sym c.carry_out-follows.ensures.done)
@@ -55,7 +58,7 @@ carry_out-follows-requires-clause-may g c =
     may_carry_out g.N.Tag.start g.N.Tag.opening (g.T.ReadTree.contents c.self.inside.tree) g.N.Tag.tree_faults _ c.self.invariant.desk c.in-Ok.rows c.in-Ok.ensures c.next_id-next.result c.in-Ok-work.granted.deed c.in-Ok-work.ensures.worked.can
 
 pub after_draw-requires-clause-whole : goal.after_draw-requires-clause-whole
-after_draw-requires-clause-whole g c = ended_uncut _ c.carry_out-follows.result.drawn c.self.inside.terminal c.carry_out-follows.new.terminal c.carry_out-follows.ensures.shows
+after_draw-requires-clause-whole g c = ended_uncut _ _ c.carry_out-follows.result.drawn c.self.inside.terminal c.carry_out-follows.new.terminal c.carry_out-follows.ensures.shows
 
 pub returns-clause-shows : goal.returns-clause-shows
 returns-clause-shows g c unclosed =
@@ -68,8 +71,8 @@ returns-clause-shows g c unclosed =
     ap waits_told (c.note_after.ensures.added ∙ ap (λ f. entries_with_event inside.standing.calls c.faults-faults.result f c.note.new.self.newest) c.carry_out-follows.ensures.told)
     ∙ (waits_followed inside.standing.calls c.faults-faults.result c.in-Ok-work.granted.deed inside.standing.job c.note.new.self.newest ∙ ap waits_told c.note.ensures.added) in
     subst ShowsDesk (sym same)
-    (shows_drawn desk c.carry_out-follows.result.drawn inside.terminal
-    (subst (λ t. ShowsFrame (frame_of c.work.new.ui (rows_of standing.job t)) c.carry_out-follows.result.drawn inside.terminal c.carry_out-follows.new.terminal) (sym trouble) c.carry_out-follows.ensures.shows) whole (c.shown.ensures.shows whole))
+    (shows_drawn _ desk c.carry_out-follows.result.drawn inside.terminal
+    (subst (λ t. ShowsFrame _ (frame_of c.work.new.ui (rows_of standing.job t)) c.carry_out-follows.result.drawn inside.terminal c.carry_out-follows.new.terminal) (sym trouble) c.carry_out-follows.ensures.shows) whole (c.shown.ensures.shows whole))
 
 pub returns-clause-looked : goal.returns-clause-looked
 returns-clause-looked g c unknown =
