@@ -270,6 +270,7 @@ impl<T: Source> Source for Mute<T> {
     fn next_is(&mut self, byte: u8) -> bool
         ensures passed_on { IfKnown (T.left self.old.inner) (λ bytes. result ≡ is_next byte bytes) }
         ensures inner_stays { T.left self.new.inner ≡ T.left self.old.inner }
+        ensures counts { T.fault_count self.new.inner ≡ T.fault_count self.old.inner }
     {
         self.inner.next_is(byte)
     }
@@ -295,6 +296,7 @@ impl<T: Sink> Sink for Mute<T> {
 
     fn size(&mut self) -> Option<(u16, u16)>
         ensures inner_stays { T.given self.new.inner ≡ T.given self.old.inner }
+        ensures counts { T.fault_count self.new.inner ≡ T.fault_count self.old.inner }
     {
         self.inner.size()
     }
