@@ -77,8 +77,8 @@ impl<N: Tag, T: Tree, S: Sink, P: Spawner> Session<N, T, S, P> {
     }
 
     /// Takes up what the job did at a second of the clock, and draws. After the job's end the panels are read
-    /// again, and a message tells of it where memory ran out or a part was left. Where nothing is due all stays
-    /// as it is: so in a session that is closed, or whose end was asked.
+    /// again, and a message tells of it where memory ran out or a part was left. Where nothing is due all
+    /// stays as it is: so in a session that is closed, or whose end was asked.
     pub fn look(&mut self, alloc: Global, now: u64) -> Result<(), DeskError>
         requires uncut { IsUncut self.old }
         ensures second { OnOk result (IsSome self.old.tally.due → self.new.screen.second ≡ now) }
