@@ -1,5 +1,5 @@
 -- The steps of a search leave a whole desk.
-use Rattle.std.proofs.Common.{◌≡◌, ℕ, ◌≤◌, ◌∷◌, Bool, true, false, not, ◌||◌, ◌&&◌, List, Result, Ok, Err, IsOk, OnOk, refl, sym, subst, Option, None}
+use Rattle.std.proofs.Common.{◌≡◌, ℕ, ◌≤◌, ◌∷◌, Bool, true, false, not, ◌||◌, ◌&&◌, List, Result, Ok, Err, IsOk, OnOk, refl, sym, ap, subst, Option, None}
 use Rattle.tree_trait.specs.declared.devices.SinkError.{SinkError}
 use Rattle.mc_text.specs.Routes.{Route}
 use Rattle.tree_trait.specs.Change.{CallLog}

@@ -1,5 +1,5 @@
 -- What the terminal of a desk shows, from call to call.
-use Rattle.std.proofs.Common.{◌≡◌, ℕ, ◌∷◌, true, false, List, [], refl, sym, ◌∙◌, ap, subst, Option, Some, None, Result, Ok, Err, OnOk}
+use Rattle.std.proofs.Common.{◌≡◌, ℕ, ◌∷◌, Bool, true, false, List, [], refl, sym, ◌∙◌, ap, subst, Option, Some, None, Result, Ok, Err, OnOk}
 use Rattle.std.specs.Prelude.{if◌then◌else◌, not}
 use Rattle.std.proofs.lemmas.Bool.{false≢true, true≢false}
 use Rattle.tree_trait.specs.declared.devices.SinkError.{SinkError}

@@ -1,5 +1,5 @@
 -- The steps of a search are written down as they were made.
-use Rattle.std.proofs.Common.{rules, ◌≡◌, ◌≤◌, ◌<◌, ◌∷◌, true, None, ap, sym, ◌∙◌, subst, arith}
+use Rattle.std.proofs.Common.{rules, ◌≡◌, ◌≤◌, ◌<◌, ◌∷◌, true, false, None, ap, sym, ◌∙◌, subst, arith}
 use Rattle.session_entries.specs.declared.history.Entry.{Entry}
 use Rattle.session_entries.specs.declared.history.Event.TheVariants.{Sought}
 use Rattle.session_log.specs.Told.{waits_told}
