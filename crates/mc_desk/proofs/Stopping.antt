@@ -1,5 +1,5 @@
 -- C-c is a key of one byte, and the only one that is worked while a search goes on.
-use Rattle.std.proofs.Common.{◌≡◌, ℕ, Bool, true, false, not, ◌||◌, ◌&&◌, List, [], ◌∷◌, ◌++◌, refl, sym, ap, subst, ◌∙◌, Option, Some, None}
+use Rattle.std.proofs.Common.{◌≡◌, ℕ, Bool, true, false, not, ◌||◌, ◌&&◌, List, [], ◌∷◌, ◌++◌, ap, subst, ◌∙◌, Option, Some}
 use Rattle.key_screen.specs.declared.keys.Key.{Key}
 use Rattle.key_screen.specs.declared.keys.Fed.{Fed}
 use Rattle.key_screen.specs.DecodedKeys.{Decoded, decoded_keys, keys_fed, list_of_key}
