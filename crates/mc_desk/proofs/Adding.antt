@@ -231,9 +231,11 @@ module _ (contents contents_after : Option CallLog) (faults : ℕ) (old new : Se
     leads = (
       unclosed,
       is_due,
-      now,
-      subst (λ s. LookLeads contents (rows_told old.newest) now old.tally.has_unseen_end (news_left old.newest) refusals s (noted_screen new)) (sym (unasked_screen old unasked))
-          (subst (λ s. LookLeads contents (rows_told old.newest) now old.tally.has_unseen_end (news_left old.newest) refusals old.screen s) (sym (unasked_screen new (quit ∙ unasked))) leads),
+      (
+        now,
+        subst (λ s. LookLeads contents (rows_told old.newest) now old.tally.has_unseen_end (news_left old.newest) refusals s (noted_screen new)) (sym (unasked_screen old unasked))
+            (subst (λ s. LookLeads contents (rows_told old.newest) now old.tally.has_unseen_end (news_left old.newest) refusals old.screen s) (sym (unasked_screen new (quit ∙ unasked))) leads),
+      ),
     );
     sought = tt;
     caused = refused;

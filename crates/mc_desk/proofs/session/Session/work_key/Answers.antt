@@ -70,9 +70,11 @@ returns-clause-shows g c unclosed =
     let trouble : waits_told c.note_after.new.self.newest ≡ waits_told inside.log.newest =
     ap waits_told (c.note_after.ensures.added ∙ ap (λ f. entries_with_event inside.standing.calls c.faults-faults.result f c.note.new.self.newest) c.carry_out-follows.ensures.told)
     ∙ (waits_followed inside.standing.calls c.faults-faults.result c.in-Ok-work.granted.deed inside.standing.job c.note.new.self.newest ∙ ap waits_told c.note.ensures.added) in
+    let asked : ShowsFrame (asks_anew c.args.key) (frame_of c.work.new.ui (rows_of standing.job (waits_told inside.log.newest))) c.carry_out-follows.result.drawn inside.terminal c.carry_out-follows.new.terminal =
+    subst (λ b. ShowsFrame b (frame_of c.work.new.ui (rows_of standing.job (waits_told inside.log.newest))) c.carry_out-follows.result.drawn inside.terminal c.carry_out-follows.new.terminal) c.drawing_after.ensures c.carry_out-follows.ensures.shows in
     subst ShowsDesk (sym same)
-    (shows_drawn _ desk c.carry_out-follows.result.drawn inside.terminal
-    (subst (λ t. ShowsFrame _ (frame_of c.work.new.ui (rows_of standing.job t)) c.carry_out-follows.result.drawn inside.terminal c.carry_out-follows.new.terminal) (sym trouble) c.carry_out-follows.ensures.shows) whole (c.shown.ensures.shows whole))
+    (shows_drawn (asks_anew c.args.key) desk c.carry_out-follows.result.drawn inside.terminal
+    (subst (λ t. ShowsFrame (asks_anew c.args.key) (frame_of c.work.new.ui (rows_of standing.job t)) c.carry_out-follows.result.drawn inside.terminal c.carry_out-follows.new.terminal) (sym trouble) asked) whole (c.shown.ensures.shows whole))
 
 pub returns-clause-looked : goal.returns-clause-looked
 returns-clause-looked g c unknown =
