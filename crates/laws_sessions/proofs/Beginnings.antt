@@ -18,10 +18,10 @@ use Rattle.copy_move.specs.declared.work.Work.{Work}
 use Rattle.copy_move.specs.declared.work.Work.TheVariants.{Copy, Delete, Make, Move, SetMode, RemoveEmptied}
 use Rattle.copy_move.specs.Jobs.{CallsOn, Running, TellsOn, WorkCalls, WorkTells, WorkWinds}
 use Rattle.copy_move.specs.Settling.{changed_folder}
-use Rattle.laws_sessions.proofs.OwnFolders.{may_change}
 use Rattle.laws_sessions.specs.Traces.{IsUnclaimed, WorkLeads}
 use Rattle.laws_sessions.proofs.Deleted.{folder_removed, removal_done}
 use Rattle.laws_sessions.proofs.Intact.{folder_apart, prefix_append}
+use Rattle.laws_sessions.proofs.OwnNames.{may_change}
 use Rattle.laws_sessions.proofs.Sources.{item_in}
 use Rattle.laws_sessions.proofs.Stepped.{calm_by, folders_by}
 use Rattle.laws_sessions.proofs.Unchanged.{knows_calm}

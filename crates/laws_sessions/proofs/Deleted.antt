@@ -20,13 +20,13 @@ use Rattle.job_reports.specs.Paths.{folder_of}
 use Rattle.job_reports.proofs.CallAnswers.{done_call, IsDoneCall}
 use Rattle.copy_move.specs.declared.work.Work.{Work}
 use Rattle.copy_move.specs.declared.run.Course.{Course}
-use Rattle.laws_sessions.proofs.OwnFolders.{may_change}
 use Rattle.laws_sessions.specs.Doubt.{is_joint, way_waits}
 use Rattle.laws_sessions.proofs.Calming.{nothing_known}
 use Rattle.laws_sessions.proofs.Changing.{IsHollow, hollow_file, removed_known}
 use Rattle.laws_sessions.proofs.Emptied.{IsEmptied, emptied}
 use Rattle.laws_sessions.proofs.Knowing.{IsCalmPath, IsKept, IsKnown, HistoryFacts, held, settled_marks}
 use Rattle.laws_sessions.proofs.JobKnows.{WorkKnows, work_settled, work_still}
+use Rattle.laws_sessions.proofs.OwnNames.{may_change}
 use Rattle.laws_sessions.proofs.Resting.{IsOfFiles, IsSureFolder, bare_unjoined, folder_at}
 use Rattle.laws_sessions.proofs.Restless.{IsUnjoined}
 use Rattle.laws_sessions.proofs.Sources.{item_in}

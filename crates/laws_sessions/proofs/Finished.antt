@@ -39,7 +39,6 @@ use Rattle.copy_move.specs.Settling.{changed_folder}
 use Rattle.job_reports.specs.Paths.{folder_of, without}
 use Rattle.copy_move.specs.JobStepReports.{SyncsOwed}
 use Rattle.laws_sessions.specs.Doubt.{name_waits}
-use Rattle.laws_sessions.proofs.OwnFolders.{may_change}
 use Rattle.session_entries.specs.Named.{begins_change, changed_after, has_changed, names}
 use Rattle.session_entries.specs.LiveJobs.{live_item, live_jobs}
 use Rattle.session_entries.specs.Entries.{is_closed}
@@ -51,6 +50,7 @@ use Rattle.laws_sessions.proofs.Going.{only_job}
 use Rattle.laws_sessions.proofs.Histories.{IsReached, traced_reached}
 use Rattle.laws_sessions.proofs.Owing.{in_filter}
 use Rattle.laws_sessions.proofs.JobKnows.{WorkKnows}
+use Rattle.laws_sessions.proofs.OwnNames.{may_change}
 use Rattle.laws_sessions.proofs.Reports.{HasLive, JobsKnow, with_one}
 use Rattle.laws_sessions.proofs.Sources.{folder_is, folder_same, item_in, tells_same}
 use Rattle.laws_sessions.proofs.Prefixes.{calm_event, calm_told, folders_event, folders_told, told_of}

@@ -1,5 +1,5 @@
 -- A finished job has left no path of its own in doubt: neither what it touches nor the parts that it named.
-use Rattle.std.proofs.Common.{◌≡◌, true, sym, subst, inl, inr, ◌⊎◌}
+use Rattle.std.proofs.Common.{◌≡◌, true, sym, subst, inl, inr, ◌⊎◌, ap}
 use Rattle.mc_text.specs.Routes.{Route}
 use Rattle.tree_trait.specs.Change.{CallLog}
 use Rattle.make_job.specs.declared.new_thing.NewThing.{NewThing}
@@ -11,11 +11,12 @@ use Rattle.laws_sessions.specs.Owed.{FinishedLaw}
 use Rattle.laws_sessions.specs.OwnPaths.{IsOwnPath, has_named_part}
 use Rattle.laws_sessions.specs.Staying.{IsNoMatterOf}
 use Rattle.laws_sessions.specs.Touched.{touches}
-use Rattle.laws_sessions.proofs.FinishedPaths.{IsNoMatter, IsPartStill, paths_left}
+use Rattle.laws_sessions.proofs.FinishedPaths.{IsNoMatter, IsPartStill, finished_goes, paths_left}
 use Rattle.laws_sessions.proofs.Histories.{traced_reached}
 use Rattle.laws_sessions.proofs.OwnParts.{AreOwn, IsOwnPart, parts_own}
 use Rattle.laws_sessions.proofs.Reports.{HasLive, told_item}
 use Rattle.laws_sessions.proofs.Sources.{item_in, making_item}
+use Rattle.laws_sessions.proofs.TreeKnown.{is_over}
 
 -- what is no matter of the work
 no_matter : (work : Work) (log : CallLog) (path : Route) → IsNoMatter work log path → IsNoMatterOf (item_in work) log path
@@ -39,7 +40,9 @@ finished_law opening now after newest stand dirty job new part item path tree se
     same = let r = traced_reached opening tree settled newest stand now traced in told_item job (live_jobs newest) r.part item (subst (λ js. HasLive (live_jobs newest) js r.part) jobs_is r.live) its
 
     parts : (p : Route) → has_named_part job.id p newest ≡ true → IsOwnPart newest job p
-    parts = subst (λ js. AreOwn newest js) jobs_is (parts_own opening tree settled newest stand now traced)
+    parts =
+        let goes = finished_goes opening now after newest stand dirty job new part tree settled traced jobs_is works changed in
+        subst (λ js. AreOwn newest js) jobs_is (parts_own opening tree settled newest stand now traced) (ap is_over goes)
 
     of_work : IsOwnPath job.id item newest path → (touches (item_in job.work) path ≡ true) ⊎ IsPartStill newest job path
     of_work (inl touched) = inl (subst (λ i. touches i path ≡ true) (sym same) touched)

@@ -2,8 +2,8 @@
 use Rattle.std.proofs.Common.{◌≡◌, ◌⊎◌, ℕ, true, false, not, List, [], ◌∷◌, ◌++◌, refl, sym, ◌∙◌, ap, subst, inl, inr, Option, Some, None}
 use Rattle.std.specs.Prelude.{◌||◌}
 use Rattle.std.specs.Option.{option_map_or}
-use Rattle.std.proofs.lemmas.Bool.{false≢true, true≢false, both_ways, false_from_ne_true, or_cases}
-use Rattle.mc_text.specs.Routes.{Route, is_prefix, same_path}
+use Rattle.std.proofs.lemmas.Bool.{false≢true, true≢false, both_ways, false_from_ne_true}
+use Rattle.mc_text.specs.Routes.{Route, is_prefix}
 use Rattle.tree_trait.specs.Shape.{IsTree}
 use Rattle.tree_trait.specs.FileSystem.{find, visible_tree, node}
 use Rattle.tree_trait.specs.Change.{CallLog, current}
@@ -19,7 +19,6 @@ use Rattle.job_reports.specs.declared.report.Did.TheVariants.{Ended}
 use Rattle.session_entries.specs.declared.history.Entry.{Entry}
 use Rattle.copy_move.specs.declared.run.Course.{Course}
 use Rattle.copy_move.specs.declared.run.Course.TheVariants.{GoesOn, Asking, InTrouble, OwedSyncFailed, Skips, Ends}
-use Rattle.job_reports.specs.Jobs.{ItemOfJob}
 use Rattle.delete_job.specs.Deletions.{Deleting}
 use Rattle.copy_move.specs.declared.work.Work.{Work}
 use Rattle.make_job.specs.declared.making.MakingStage.{MakingStage}
@@ -40,7 +39,6 @@ use Rattle.copy_move.specs.Settling.{WorkLeaves, changed_folder, is_own}
 use Rattle.job_reports.specs.Paths.{folder_of}
 use Rattle.copy_move.specs.JobStepReports.{LeavesDirty, Walks, WalksOn}
 use Rattle.laws_sessions.specs.Doubt.{IsMountInDoubt, is_unsettled, name_waits, node_waits, way_waits}
-use Rattle.laws_sessions.proofs.OwnFolders.{may_change, may_hold_parts}
 use Rattle.session_entries.specs.Named.{has_changed, named_parts}
 use Rattle.laws_sessions.specs.Touched.{touches}
 use Rattle.laws_sessions.specs.Traces.{IsTraced, IsUnclaimed, Stand, WorkLeads}
@@ -52,10 +50,11 @@ use Rattle.laws_sessions.proofs.JobKnows.{WorkKnows}
 use Rattle.laws_sessions.proofs.Knowing.{HistoryFacts}
 use Rattle.laws_sessions.proofs.KnownParts.{HasName}
 use Rattle.laws_sessions.proofs.MoveKnown.{IsMovedIn, MoveKnown, is_moved}
-use Rattle.laws_sessions.proofs.PathsBelow.{below_way, in_or_below, is_below}
+use Rattle.laws_sessions.proofs.OwnNames.{HoldsPart, IsOwnName, may_change}
+use Rattle.laws_sessions.proofs.PathsBelow.{below_way, is_below}
 use Rattle.laws_sessions.proofs.Reports.{JobsKnow}
 use Rattle.laws_sessions.proofs.Resting.{IsSureFolder, sure_path}
-use Rattle.laws_sessions.proofs.Sources.{item_in, making_changes, making_holds, making_touched}
+use Rattle.laws_sessions.proofs.Sources.{item_in, making_changes, making_touched}
 use Rattle.laws_sessions.proofs.Prefixes.{calm_told, folders_told, told_of}
 use Rattle.laws_sessions.proofs.SureThings.{IsSureThing}
 use Rattle.laws_sessions.proofs.Tidy.{IsGoing, TidyFolder}
@@ -118,6 +117,13 @@ finished_tidy opening g dirty dirty_after log job new part before after (Skips w
 finished_tidy opening g dirty dirty_after log job new part before after (Ends ending) is (work, winds, new_is) leaves t changed =
     let e : Finished ≡ Aborted = wound_up ending job.work work part winds ∙ t.aborted ending is in absurd (let f : ⊥ = cc in f)
 
+-- it goes on until then
+pub finished_goes : (opening now after : CallLog) (newest : List Entry) (stand : Stand) (dirty : List Route) (job new : Running) (part : Option Route) → IsTree (current opening) → all_settled opening.changes ≡ true → IsTraced opening newest stand now
+    → stand.jobs ≡ job ∷ [] → WorkLeads job (Ended Finished part) new stand.dirty dirty now after → has_changed job.id newest ≡ true → job.course ≡ GoesOn
+finished_goes opening now after newest stand dirty job new part tree settled traced jobs_is works changed =
+    let tidy : IsTidyJob opening newest stand.dirty now job = subst (λ js. AreTidy opening newest stand.dirty now js) jobs_is (traced_tidy opening tree settled newest stand now traced) in
+    (finished_tidy opening newest stand.dirty dirty now job new part (Some now) (Some after) job.course refl works.tells works.leaves tidy changed).0
+
 -- so its folder is known to be on the disk
 pub finished_folder : (opening : CallLog) → IsTree (current opening) → all_settled opening.changes ≡ true → (newest : List Entry) (stand : Stand) (now : CallLog) (job : Running) → IsTraced opening newest stand now
     → stand.jobs ≡ job ∷ [] → has_changed job.id newest ≡ true → folders_told opening newest (changed_folder job.work) ≡ true
@@ -132,7 +138,7 @@ IsNoMatter work log path = IsMountInDoubt log path
 
 -- a part that the job named, and that is one still
 abbrev pub IsPartStill : List Entry → Running → Route → Type 0
-IsPartStill g job path = (may_hold_parts (item_in job.work) (folder_of path) ≡ true) × Among (named_parts g) path
+IsPartStill g job path = HoldsPart job.work path × Among (named_parts g) path
 
 -- where the folder that holds a path isn't in doubt, and no name at or below the path waits, nothing there is
 sure_below : (log : CallLog) (top : Route) → way_waits log (folder_of top) ≡ false → ((p : Route) → is_prefix top p ≡ true → name_waits log p ≡ false) → (rest : Route) → way_waits log (rest ++ top) ≡ false
@@ -185,7 +191,7 @@ module _ (opening now : CallLog) (newest : List Entry) (stand : Stand) (path : R
 
   -- and of a copy
   module _ (c : SubtreeCopying) (left : TreeLeft (told_of opening now newest seen.part) seen.marks now c) where
-    names_none : (p : Route) → is_own (Copy c) (folder_of p) ≡ true → name_waits now p ≡ false
+    names_none : (p : Route) → IsOwnName c.at.job c.top p → name_waits now p ≡ false
     names_none [] own = refl
     names_none (name ∷ up) own = left.names name up own
 
@@ -209,17 +215,15 @@ module _ (opening now : CallLog) (newest : List Entry) (stand : Stand) (path : R
     copied_left : way_waits now (folder_of c.top.target) ≡ false → is_prefix c.top.target path ≡ true → IsLeftCalm
     copied_left firm own =
         let w = below_way c.top.target path own in
-        calm_left (ap (way_waits now) w.1 ∙ sure_below now c.top.target firm (λ p below. names_none p (in_or_below c.top.target p below)) w.0) (none_waits w.0 w.1)
+        calm_left (ap (way_waits now) w.1 ∙ sure_below now c.top.target firm (λ p below. names_none p (inl below)) w.0) (none_waits w.0 w.1)
 
     -- and a part that it named waits for nothing but as a part
-    part_left : way_waits now (folder_of c.top.target) ≡ false → is_own (Copy c) (folder_of path) ≡ true → Among (named_parts newest) path → IsLeftCalm
-    part_left firm own named = (by (or_cases (same_path (folder_of path) (folder_of c.top.target)) (is_prefix c.top.target (folder_of path)) own), λ unnamed none. absurd (unnamed named))
+    part_left : way_waits now (folder_of c.top.target) ≡ false → IsOwnName c.at.job c.top path → Among (named_parts newest) path → IsLeftCalm
+    part_left firm own named = (by own, λ unnamed none. absurd (unnamed named))
       where
-        by : (same_path (folder_of path) (folder_of c.top.target) ≡ true) ⊎ (is_prefix c.top.target (folder_of path) ≡ true) → way_waits now path ≡ false
-        by (inl beside) = sure_path now path (ap (way_waits now) (same_path-true (folder_of path) (folder_of c.top.target) beside) ∙ firm) (names_none path own)
-        by (inr within) =
-            let w = below_way c.top.target (folder_of path) within in
-            sure_path now path (ap (way_waits now) w.1 ∙ sure_below now c.top.target firm (λ p below. names_none p (in_or_below c.top.target p below)) w.0) (names_none path own)
+        by : IsOwnName c.at.job c.top path → way_waits now path ≡ false
+        by (inl below) = let w = below_way c.top.target path below in ap (way_waits now) w.1 ∙ sure_below now c.top.target firm (λ p below. names_none p (inl below)) w.0
+        by (inr beside) = sure_path now path (ap (λ q. way_waits now (folder_of q)) beside.1 ∙ firm) (names_none path own)
 
   -- what is known of a copy or a move when it ends
   abbrev IsWhole : Work → Type 0
@@ -231,32 +235,32 @@ module _ (opening now : CallLog) (newest : List Entry) (stand : Stand) (path : R
   module _ (job : Running) (firm : way_waits now (changed_folder job.work) ≡ false) (off : knows_calm job.work ≡ false → (q : Route) → is_own job.work q ≡ true → Among stand.dirty q → ⊥) (named : IsSureThing (item_in job.work) now)
       (calm : knows_calm job.work ≡ false → (p : Route) → may_change (item_in job.work) p ≡ true → calm_told newest p ≡ true) (whole : IsWhole job.work) where
     abbrev Own : Work → Type 0
-    Own work = (touches (item_in work) path ≡ true) ⊎ ((may_hold_parts (item_in work) (folder_of path) ≡ true) × Among (named_parts newest) path)
+    Own work = (touches (item_in work) path ≡ true) ⊎ (HoldsPart work path × Among (named_parts newest) path)
 
-    no_part : (item : ItemOfJob) → ((folder : Route) → may_hold_parts item folder ≡ false) → (touches item path ≡ true) ⊎ ((may_hold_parts item (folder_of path) ≡ true) × Among (named_parts newest) path) → touches item path ≡ true
-    no_part item none (inl touched) = touched
-    no_part item none (inr part) = absurd (both_ways _ (none (folder_of path)) part.0)
+    no_part : (work : Work) → (HoldsPart work path → ⊥) → Own work → touches (item_in work) path ≡ true
+    no_part work none (inl touched) = touched
+    no_part work none (inr part) = absurd (none part.0)
 
     left_of : (work : Work) → job.work ≡ work → Own work → IsLeft work
     left_of (Copy c) is (inl touched) = copied_left c (subst IsWhole is whole) (subst (λ w. way_waits now (changed_folder w) ≡ false) is firm) touched
     left_of (Copy c) is (inr part) = part_left c (subst IsWhole is whole) (subst (λ w. way_waits now (changed_folder w) ≡ false) is firm) part.0 part.1
     left_of (Delete d) is own =
         deletion_left d (subst (λ w. way_waits now (changed_folder w) ≡ false) is firm)
-        (λ q of_it. off (ap knows_calm is) q (ap (λ w. is_own w q) is ∙ of_it)) (λ p of_it. calm (ap knows_calm is) p (ap (λ w. may_change (item_in w) p) is ∙ of_it)) (no_part (item_in (Delete d)) (λ folder. refl) own)
+        (λ q of_it. off (ap knows_calm is) q (ap (λ w. is_own w q) is ∙ of_it)) (λ p of_it. calm (ap knows_calm is) p (ap (λ w. may_change (item_in w) p) is ∙ of_it)) (no_part (Delete d) (λ held. held) own)
     left_of (Make m) is own =
         name_left m.path (subst (λ w. way_waits now (changed_folder w) ≡ false) is firm) (off (ap knows_calm is) (folder_of m.path) (ap (λ w. is_own w (folder_of m.path)) is ∙ same_path-self (folder_of m.path)))
         (calm (ap knows_calm is) m.path (ap (λ w. may_change (item_in w) m.path) is ∙ making_changes m.thing m.path m.path (same_path-self m.path)))
-        (same_path-true path m.path (making_touched m.thing m.path path (no_part (item_in (Make m)) (making_holds m.thing m.path) own)))
+        (same_path-true path m.path (making_touched m.thing m.path path (no_part (Make m) (λ held. held) own)))
     left_of (Move m) is own =
         let w : IsWhole (Move m) = subst IsWhole is whole in
-        move_left opening now newest stand path tree settled traced m w.0 w.1.0 w.1.1.0 w.1.1.1 (no_part (item_in (Move m)) (λ folder. refl) own)
+        move_left opening now newest stand path tree settled traced m w.0 w.1.0 w.1.1.0 w.1.1.1 (no_part (Move m) (λ held. held) own)
     left_of (SetMode s) is own =
         mode_left s (subst (λ w. way_waits now (changed_folder w) ≡ false) is firm) (off (ap knows_calm is) s.path (ap (λ w. is_own w s.path) is ∙ same_path-self s.path))
-        (subst (λ w. IsSureThing (item_in w) now) is named) (same_path-true path s.path (no_part (item_in (SetMode s)) (λ folder. refl) own))
+        (subst (λ w. IsSureThing (item_in w) now) is named) (same_path-true path s.path (no_part (SetMode s) (λ held. held) own))
     left_of (RemoveEmptied r) is own =
         name_left r.path (subst (λ w. way_waits now (changed_folder w) ≡ false) is firm) (off (ap knows_calm is) (folder_of r.path) (ap (λ w. is_own w (folder_of r.path)) is ∙ same_path-self (folder_of r.path)))
         (calm (ap knows_calm is) r.path (ap (λ w. may_change (item_in w) r.path) is ∙ same_path-self r.path))
-        (same_path-true path r.path (no_part (item_in (RemoveEmptied r)) (λ folder. refl) own))
+        (same_path-true path r.path (no_part (RemoveEmptied r) (λ held. held) own))
 
 -- so it is of a copy, where it tells its end
 whole_left : (told : HistoryFacts) (dirty dirty_after : List Route) (marks : Marks) (log now : CallLog) (job new : Running) (part : Option Route) (c : SubtreeCopying) → job.work ≡ Copy c → job.course ≡ GoesOn → WorkKnows told dirty marks log job.course job.work

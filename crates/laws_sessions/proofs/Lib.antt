@@ -5,6 +5,7 @@ pub mod BareItems
 pub mod BareSteps
 pub mod BareTargets
 pub mod Beginnings
+pub mod BegunParts
 pub mod Calm
 pub mod CalmChanges
 pub mod CalmFiles
@@ -48,6 +49,7 @@ pub mod FoldersLie
 pub mod FoldersMade
 pub mod GivenModes
 pub mod Going
+pub mod HeldParts
 pub mod Histories
 pub mod Holding
 pub mod HollowThings
@@ -102,7 +104,7 @@ pub mod OtherParts
 pub mod OwedModes
 pub mod Owing
 pub mod Owners
-pub mod OwnFolders
+pub mod OwnNames
 pub mod OwnParts
 pub mod PathsBelow
 pub mod PartMade
@@ -126,6 +128,7 @@ pub mod Restless
 pub mod RoamingFolders
 pub mod Resting
 pub mod SetFolders
+pub mod SameNumbers
 pub mod SettingModes
 pub mod Since
 pub mod Sources

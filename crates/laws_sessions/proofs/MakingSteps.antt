@@ -40,7 +40,6 @@ use Rattle.copy_move.specs.Jobs.{course_after}
 use Rattle.copy_move.specs.Settling.{with_change as moves_dirty}
 use Rattle.laws_sessions.specs.Replayed.{made_by}
 use Rattle.laws_sessions.specs.Doubt.{name_waits}
-use Rattle.laws_sessions.proofs.OwnFolders.{may_change}
 use Rattle.laws_sessions.proofs.Calming.{refused_is, still_listed}
 use Rattle.laws_sessions.proofs.Changing.{seen_nowhere}
 use Rattle.laws_sessions.proofs.Deleted.{comes_refused, either, put_at, put_off}
@@ -49,6 +48,7 @@ use Rattle.job_unsynced.specs.Folders.{joined_folders}
 use Rattle.laws_sessions.proofs.JobKnows.{HasName, IsUntouched, KnowsAfter, NoneOver, WorkKnows, none_waits, over_it, untouched_free, way_sure}
 use Rattle.laws_sessions.proofs.Knowing.{IsCalmPath, IsKept, IsKnown, HistoryFacts, nowhere, settled_marks}
 use Rattle.laws_sessions.proofs.MakingThings.{marks_born, new_node, thing_made_known}
+use Rattle.laws_sessions.proofs.OwnNames.{may_change}
 use Rattle.laws_sessions.proofs.Resting.{IsSureFolder, folder_at_of, sure_path}
 use Rattle.laws_sessions.proofs.Sources.{folder_is, item_in, making_changed, making_item}
 use Rattle.laws_sessions.proofs.Stepped.{StepRan, comes_one, said_after}

@@ -28,13 +28,13 @@ use Rattle.copy_move.specs.declared.run.Course.TheVariants.{GoesOn, Ends}
 use Rattle.delete_job.specs.DeletionSteps.{after_try}
 use Rattle.copy_move.specs.Jobs.{course_after}
 use Rattle.copy_move.specs.Settling.{NoneOwed, with_change as moves_dirty}
-use Rattle.laws_sessions.proofs.OwnFolders.{may_change}
 use Rattle.laws_sessions.proofs.Calming.{refused_is}
 use Rattle.laws_sessions.proofs.Deleted.{IsRemoval, comes_refused, folder_removed, removes_thing}
 use Rattle.laws_sessions.proofs.DeletionSteps.{Steps, ends, joined_holds, joined_more, same_dirty, tried}
 use Rattle.laws_sessions.proofs.Intact.{removed_in}
 use Rattle.laws_sessions.proofs.JobKnows.{HasName, KnowsAfter, WorkKnows}
 use Rattle.laws_sessions.proofs.Knowing.{IsCalmPath, IsKept, HistoryFacts}
+use Rattle.laws_sessions.proofs.OwnNames.{may_change}
 use Rattle.laws_sessions.proofs.Resting.{name_sure}
 use Rattle.laws_sessions.proofs.Sources.{item_in}
 use Rattle.laws_sessions.proofs.Stepped.{StepRan, said_after}

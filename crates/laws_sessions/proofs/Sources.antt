@@ -35,7 +35,7 @@ use Rattle.mode_job.specs.Settings as settings
 use Rattle.copy_move.specs.Jobs.{PassesOver, Running, JobTells, TellsOn, WorkTells, WorkWinds, answered_job, answered_on, copies, deletes, first_work, makes, moves, removes_emptied, sets, taken_anew}
 use Rattle.copy_move.specs.Settling.{changed_folder}
 use Rattle.laws_sessions.specs.Touched.{touches}
-use Rattle.laws_sessions.proofs.OwnFolders.{may_change, may_hold_parts}
+use Rattle.laws_sessions.proofs.OwnNames.{may_change}
 
 -- what is made at a path
 abbrev pub making_item : NewThing → Route → ItemOfJob
@@ -83,14 +83,10 @@ making_changed new path p h = sym (making_may new path p) ∙ h
 pub making_changes : (new : NewThing) (path p : Route) → same_path p path ≡ true → may_change (making_item new path) p ≡ true
 making_changes new path p h = making_may new path p ∙ h
 
--- it is touched, and no part is held there
+-- so it does where that is touched
 pub making_touched : (new : NewThing) (path p : Route) → touches (making_item new path) p ≡ true → same_path p path ≡ true
 making_touched thing.Folder path p h = h
 making_touched (thing.Link text) path p h = h
-
-pub making_holds : (new : NewThing) (path folder : Route) → may_hold_parts (making_item new path) folder ≡ false
-making_holds thing.Folder path folder = refl
-making_holds (thing.Link text) path folder = refl
 
 -- works on the same item change names in the same folder
 pub folder_same : (old new : Work) → item_in old ≡ item_in new → changed_folder old ≡ changed_folder new

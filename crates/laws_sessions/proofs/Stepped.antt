@@ -13,9 +13,9 @@ use Rattle.job_reports.specs.declared.report.Did.TheVariants.{Began, Chunk, Plac
 use Rattle.copy_move.specs.declared.work.Work.{Work}
 use Rattle.session_entries.specs.Moves.{is_of_move}
 use Rattle.laws_sessions.specs.Replayed.{earlier_step, replayed_step}
-use Rattle.laws_sessions.proofs.OwnFolders.{may_change}
 use Rattle.session_entries.specs.Named.{left_by, named_by}
 use Rattle.laws_sessions.proofs.Knowing.{HistoryFacts, IsKnown, IsKept, settled_kept, settled_marks}
+use Rattle.laws_sessions.proofs.OwnNames.{may_change}
 use Rattle.laws_sessions.proofs.Sources.{item_in}
 
 -- the log with these changes more

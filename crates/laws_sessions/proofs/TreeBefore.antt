@@ -49,7 +49,7 @@ pub record Before (told : HistoryFacts) (dirty : List Route) (marks : Marks) (lo
 
 -- What is known once something was changed: the source doesn't lie below the target, and what the machine knows of the log as the step began.
 abbrev pub Had : CallLog → SubtreeCopying → Type 0
-Had log c = LiesOutside c.top × LogHas c.top log c.at
+Had log c = LiesOutside c.top × LogHas c.top c.at.job log c.at
 
 pub had_begun : (told : HistoryFacts) (dirty : List Route) (marks : Marks) (log : CallLog) (c : SubtreeCopying) (mid : Seen) → Before told dirty marks log c mid → is_fresh c.at.stage ≡ false → Had log c
 had_begun told dirty marks log c mid b some = let h = b.begun some in (h.outside, log_has told dirty marks log c b.stands h)

@@ -27,7 +27,6 @@ use Rattle.copy_move.specs.declared.work.Work.TheVariants.{Copy}
 use Rattle.tree_trait.specs.Refusals.{is_folder}
 use Rattle.laws_sessions.proofs.Changing.{some_is}
 use Rattle.laws_sessions.proofs.JobKnows.{modes_in}
-use Rattle.laws_sessions.proofs.PathsBelow.{in_or_below}
 use Rattle.laws_sessions.proofs.TreeKnown.{LiesOutside}
 use Rattle.laws_sessions.proofs.BareTargets.{StandsBare, none_below_open}
 use Rattle.laws_sessions.proofs.Calm.{filled_part, was_set}
@@ -57,8 +56,8 @@ pub record Meets (log : CallLog) (pair : Pair) : Type 0 where
 -- all that lies below it is calm.
 pub record MayChange (marks : Marks) (log : CallLog) (c : SubtreeCopying) (mid : Seen) : Type 0 where
   pub outside : LiesOutside c.top
-  pub has : LogHas c.top log c.at
-  pub here : LogHas c.top log mid
+  pub has : LogHas c.top c.at.job log c.at
+  pub here : LogHas c.top c.at.job log mid
   pub firm : IsSureFolder log (folder_of c.top.target)
   pub calm : (p : Route) → is_prefix c.top.target p ≡ true → IsCalmPath marks log p
 
@@ -79,9 +78,9 @@ none_left (suc n) old mid (last, all, none, one) outermost =
     absurd (let e : [] ≡ mid.levels.inner ∷ mid.levels.around = sym (ap (λ (c : Seen). c.levels.around) same ∙ outermost) ∙ left.was in let f : ⊥ = cc in f)
 
 -- the names at and below the target of a copy wait for the syncs of their own folders alone
-own_alone : (top : Pair) (log : CallLog) (c : Seen) → LogHas top log c → (p : Route) → is_prefix top.target p ≡ true → WaitsAlone log p
-own_alone top log c has [] own = tt
-own_alone top log c has (name ∷ q) own = (has.names name q (in_or_below top.target (name ∷ q) own)).1
+own_alone : (top : Pair) (job : ℕ) (log : CallLog) (c : Seen) → LogHas top job log c → (p : Route) → is_prefix top.target p ≡ true → WaitsAlone log p
+own_alone top job log c has [] own = tt
+own_alone top job log c has (name ∷ q) own = (has.names name q (inl own)).1
 
 module _ (told : HistoryFacts) (dirty : List Route) (marks : Marks) (log : CallLog) (kept : IsKept told dirty marks log) (c : SubtreeCopying) (mid : Seen) (n : ℕ) (leaves : LeavesAll n c.at mid) (stands : TreeStands dirty c)
     (none : mid.item ≡ Next) (pair : Pair) (next : due mid ≡ Thing pair) (meets : Meets log pair) where
@@ -102,11 +101,11 @@ module _ (told : HistoryFacts) (dirty : List Route) (marks : Marks) (log : CallL
 
   -- once something was changed: what stands at or below the target is calm, since no folder at its end has a name to be met
   module _ (h : TreeHas told marks log c) where
-    had : LogHas top log c.at
+    had : LogHas top c.at.job log c.at
     had = log_has told dirty marks log c stands h
 
-    here : LogHas top log mid
-    here = leaves_has top log n c.at mid leaves had
+    here : LogHas top c.at.job log mid
+    here = leaves_has top c.at.job log n c.at mid leaves had
 
     unset : was_set mid.levels.inner.copy.stage mid.levels.inner.copy.names ≡ false
     unset = filled_unset mid.levels.inner.copy.stage mid.levels.inner.copy.names (filled_if mid here.ends (λ over. met_not mid.levels.inner.names.names mid pair next over.last))
@@ -136,7 +135,7 @@ module _ (told : HistoryFacts) (dirty : List Route) (marks : Marks) (log : CallL
       has = had;
       here = here;
       firm = kept.known.stand up h.folder;
-      calm = λ p own. let way = prefix_way top.target p own in record { mode = subst (HasCalmMode marks (current log)) (sym way.1) (mode way.0); alone = own_alone top log mid here p own };
+      calm = λ p own. let way = prefix_way top.target p own in record { mode = subst (HasCalmMode marks (current log)) (sym way.1) (mode way.0); alone = own_alone top c.at.job log mid here p own };
     }
 
   -- as the first change is made
@@ -190,12 +189,12 @@ module _ (told : HistoryFacts) (dirty : List Route) (marks : Marks) (log : CallL
         record {
           outside = apart;
           has = has;
-          here = leaves_has top log n c.at mid leaves has;
+          here = leaves_has top c.at.job log n c.at mid leaves has;
           firm = record {
             stands = ap (λ q. folder_at (current log) (folder_of q)) (sym target_is) ∙ meets.stands;
             sure = way_sure told dirty marks log up kept.known (none_over (current log) (Copy c) dirty owed);
           };
-          calm = λ p own. let way = prefix_way top.target p own in record { mode = subst (HasCalmMode marks (current log)) (sym way.1) (mode_there way.0); alone = own_alone top log c.at has p own };
+          calm = λ p own. let way = prefix_way top.target p own in record { mode = subst (HasCalmMode marks (current log)) (sym way.1) (mode_there way.0); alone = own_alone top c.at.job log c.at has p own };
         }
 
   pub may_change_now : (is_fresh c.at.stage ≡ false → TreeHas told marks log c) → (is_fresh c.at.stage ≡ true → NoneOwed (current log) (Copy c) dirty) → MayChange marks log c mid
@@ -210,7 +209,7 @@ module _ (told : HistoryFacts) (dirty : List Route) (marks : Marks) (log : CallL
   met_own = subst (λ q. is_prefix top.target q ≡ true) (sym here_moved.to) (prefix_append top.target here_moved.rest)
 
   -- it is filled
-  pub worked_filled : is_around_dirty mid.levels.around ≡ false → LogHas top log mid → IsFilling log mid.levels.inner.copy.target (ahead mid)
+  pub worked_filled : is_around_dirty mid.levels.around ≡ false → LogHas top c.at.job log mid → IsFilling log mid.levels.inner.copy.target (ahead mid)
   worked_filled clean has = let copy = has.copy in let levels = copy.0.0 in filled_inner (is_around_dirty mid.levels.around) log mid.levels.inner.copy.target (ahead mid) clean levels.inner
 
 -- what a history says, with the folder that holds the target as one on the disk, and the target and all that lies below it as calm

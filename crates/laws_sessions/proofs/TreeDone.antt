@@ -14,7 +14,7 @@ use Rattle.job_reports.specs.declared.report.StepResult.{StepResult}
 use Rattle.copy_folders.specs.FolderCopying.{FolderCopying}
 use Rattle.copy_folders.specs.FolderSteps as folder
 use Rattle.copy_job.specs.Passing.{OrPassedOver}
-use Rattle.copy_job.specs.Standing.{SubtreeCopying, is_own}
+use Rattle.copy_job.specs.Standing.{SubtreeCopying}
 use Rattle.copy_job.specs.SubtreeSteps.{ListSteps, SubtreeSteps, step_result}
 use Rattle.copy_tree.specs.Parts.{IsPartPlace}
 use Rattle.copy_tree.specs.Skipping.{SkipsAt, SkipsNamed}
@@ -26,13 +26,14 @@ use Rattle.copy_move.specs.declared.run.Course.TheVariants.{GoesOn}
 use Rattle.laws_sessions.specs.Doubt.{name_waits}
 use Rattle.tree_trait.specs.Refusals.{is_folder}
 use Rattle.laws_sessions.proofs.Knowing.{HistoryFacts}
+use Rattle.laws_sessions.proofs.OwnNames.{IsOwnName}
 use Rattle.laws_sessions.proofs.TreeEnds.{IsAtEnd, ended_calm, ended_names, ends_here}
 use Rattle.laws_sessions.proofs.TreeGoing.{LogHas, leaves_has}
 use Rattle.laws_sessions.proofs.TreeKnown.{TargetKnows, TreeKnown}
 use Rattle.laws_sessions.proofs.TreeLeads.{log_has}
 
 pub record TreeLeft (told : HistoryFacts) (marks : Marks) (log : CallLog) (c : SubtreeCopying) : Type 0 where
-  pub names : (name : List ℕ) (up : Route) → is_own c up ≡ true → name_waits log (name ∷ up) ≡ false
+  pub names : (name : List ℕ) (up : Route) → IsOwnName c.at.job c.top (name ∷ up) → name_waits log (name ∷ up) ≡ false
   pub calm : (rest : Route) (i : ℕ) → find (current log) (rest ++ c.top.target) ≡ Some i → (is_clean i log.changes ≡ true) ⊎ ((rest ≡ []) × (is_folder (node (current log) i) ≡ false))
   pub around : TargetKnows told marks (current log) c
 
@@ -61,24 +62,24 @@ module _ (told : HistoryFacts) (dirty dirty_after : List Route) (marks : Marks) 
   -- folders that owe nothing are left, and the machine is at its end
   record Ends : Type 0 where
     pub last : Seen
-    pub has : LogHas c.top log last
+    pub has : LogHas c.top c.at.job log last
     pub end : IsAtEnd last
 
-  stands : LogHas c.top log c.at
+  stands : LogHas c.top c.at.job log c.at
   stands = (let g = known.goes refl in log_has told dirty marks log c g.stands (g.begun begun))
 
-  here : LogHas c.top log s.mid
-  here = (let l = s.leaves in leaves_has c.top log l.0 c.at s.mid l.1 stands)
+  here : LogHas c.top c.at.job log s.mid
+  here = (let l = s.leaves in leaves_has c.top c.at.job log l.0 c.at s.mid l.1 stands)
 
   worked : (did : Did) → did ≡ Ended Finished part → ListSteps free replies s.mid s.moved s.worked dirty dirty_after (Some log) (Some now) f0 f1 → (let w = s.worked in w.did) ≡ did → Ends
   worked did is (inl short) told_is = absurd (let e = sym is ∙ (sym told_is ∙ ap (λ (r : StepResult). r.did) short.says) in let f : ⊥ = cc in f)
   worked did is (inr m) told_is =
       let steps = m.steps in
-      let at_last = leaves_has c.top log steps.folders s.mid steps.mid steps.leaves here in
+      let at_last = leaves_has c.top c.at.job log steps.folders s.mid steps.mid steps.leaves here in
       record {
         last = steps.mid;
         has = at_last;
-        end = ends_here c.top log steps.mid at_last (IsPartPlace free steps.mid) replies s.moved part (Some log) (Some now) (let l : Seen = steps.mid in l.item) refl
+        end = ends_here c.top c.at.job log steps.mid at_last (IsPartPlace free steps.mid) replies s.moved part (Some log) (Some now) (let l : Seen = steps.mid in l.item) refl
             (subst (λ d. WorksOn (let l : Seen = steps.mid in l.item) (IsPartPlace free steps.mid) replies steps.mid s.moved d (Some log) (Some now)) (told_is ∙ is) steps.works);
       }
 
@@ -95,7 +96,7 @@ module _ (told : HistoryFacts) (dirty dirty_after : List Route) (marks : Marks) 
       let g = known.goes refl in
       let has = g.begun begun in
       record {
-        names = λ name up own. ended_names c.top log e.last e.has e.end name up own;
-        calm = λ rest i leads. ended_calm c.top log e.last e.has e.end rest i leads;
+        names = λ name up own. ended_names c.top c.at.job log e.last e.has e.end name up own;
+        calm = λ rest i leads. ended_calm c.top c.at.job log e.last e.has e.end rest i leads;
         around = has.around;
       }

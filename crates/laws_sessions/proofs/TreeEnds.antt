@@ -6,7 +6,6 @@ use Rattle.tree_trait.specs.FileSystem.{find, node}
 use Rattle.tree_trait.specs.Change.{CallLog, current}
 use Rattle.tree_trait.specs.CrashImages.{is_clean}
 use Rattle.job_reports.specs.declared.report.Transfer.TheVariants.{ByCopy}
-use Rattle.job_reports.specs.Paths.{folder_of}
 use Rattle.job_reports.specs.declared.job.Pair.{Pair}
 use Rattle.job_reports.specs.declared.report.Did.TheVariants as common
 use Rattle.job_reports.specs.declared.report.Ending.TheVariants.{Finished}
@@ -17,7 +16,6 @@ use Rattle.copy_folders.specs.declared.stage.NamesState.{NamesState}
 use Rattle.copy_folders.specs.declared.stage.Stage.{Stage}
 use Rattle.copy_folders.specs.declared.stage.Stage.TheVariants as at
 use Rattle.copy_folders.specs.declared.level.Level.{Level}
-use Rattle.job_unsynced.specs.Folders.{is_of}
 use Rattle.copy_tree.specs.Reports.{IsToldAs}
 use Rattle.copy_tree.specs.Standing.{Seen}
 use Rattle.copy_tree.specs.TreeCopySteps.{TakesNext, WorksOn}
@@ -32,6 +30,7 @@ use Rattle.laws_sessions.proofs.Calm.{IsSetIn, filled_part, was_set, MayWait}
 use Rattle.laws_sessions.proofs.CopySteps.{not_decided}
 use Rattle.laws_sessions.proofs.NameMarks.{not_owing}
 use Rattle.laws_sessions.proofs.Names.{IsMarkedIn}
+use Rattle.laws_sessions.proofs.OwnNames.{IsOwnName}
 use Rattle.laws_sessions.proofs.TreeGoing.{LogHas}
 
 -- nothing is at work, the outermost folder is worked, and it owes nothing
@@ -48,7 +47,7 @@ no_end folder_did.Barrier part is = absurd (let e : common.Ended Finished part �
 no_end folder_did.Closed part is = absurd is
 no_end (folder_did.Troubled trouble) part is = absurd (let e : common.Ended Finished part ≡ common.Troubled trouble = is in let f : ⊥ = cc in f)
 
-module _ (top : Pair) (log : CallLog) (c : Seen) (h : LogHas top log c) where
+module _ (top : Pair) (job : ℕ) (log : CallLog) (c : Seen) (h : LogHas top job log c) where
   -- where the machine tells its end
   module _ (unclaimed : Route → Type 0) (replies : Replies) (new : Seen) (part : Option Route) (before after : Option CallLog) where
     ends_next : c.item ≡ Next → TakesNext unclaimed replies c new (common.Ended Finished part) before after → IsAtEnd c
@@ -77,7 +76,7 @@ module _ (top : Pair) (log : CallLog) (c : Seen) (h : LogHas top log c) where
     ends_here (Stays left) is w = absurd w
 
   -- no name waits in a folder of its own
-  pub ended_names : IsAtEnd c → (name : List ℕ) (up : Route) → is_of (folder_of top.target) top.target up ≡ true → name_waits log (name ∷ up) ≡ false
+  pub ended_names : IsAtEnd c → (name : List ℕ) (up : Route) → IsOwnName job top (name ∷ up) → name_waits log (name ∷ up) ≡ false
   ended_names end name up own = false_from_ne_true _ (λ waits.
       let marked = subst (λ (around : List Level). IsMarkedIn up c.levels.inner around) end.outermost ((h.names name up own).0 waits) in
       both_ways _ end.clean marked.1)

@@ -1,6 +1,6 @@
 -- What a step of a copy of folders makes of what is known of the machine, the list and the log: folders that owe nothing are left, the machine makes
 -- a step, and what it is in trouble with may be passed over.
-use Rattle.std.proofs.Common.{◌≡◌, ℕ, suc, zero, Bool, true, false, List, ◌++◌, sym, ◌∙◌, ap, subst, inl, inr, Option, Some}
+use Rattle.std.proofs.Common.{Bool, List, Option, Some, ap, false, inl, inr, refl, subst, suc, sym, true, zero, ℕ, ◌++◌, ◌∙◌, ◌∷◌, ◌≡◌}
 use Rattle.std.specs.Prelude.{if◌then◌else◌}
 use Rattle.std.proofs.lemmas.Bool.{false≢true}
 use Rattle.mc_text.specs.Routes.{Route}
@@ -10,9 +10,7 @@ use Rattle.job_answers.specs.declared.replies.Replies.{Replies}
 use Rattle.job_reports.specs.declared.job.Pair.{Pair}
 use Rattle.job_reports.specs.declared.report.Cause.{Cause}
 use Rattle.job_reports.specs.declared.report.Did.{Did}
-use Rattle.job_reports.specs.Paths.{folder_of}
 use Rattle.job_reports.proofs.CallAnswers.{some_log}
-use Rattle.job_unsynced.specs.Folders.{is_of}
 use Rattle.copy_folders.specs.Levels.{levels_closed}
 use Rattle.copy_tree.specs.InPlace.{IsInPlace}
 use Rattle.copy_tree.specs.Parts.{IsPartPlace}
@@ -45,8 +43,10 @@ use Rattle.laws_sessions.proofs.NameLaws.{left_marked, names_law}
 use Rattle.laws_sessions.proofs.NameMarks.{Marked}
 use Rattle.laws_sessions.proofs.NameSteps.{leaves_marks}
 use Rattle.laws_sessions.proofs.Names.{IsMarked, WaitsMarked}
+use Rattle.laws_sessions.proofs.OwnNames.{IsOwnName}
 use Rattle.laws_sessions.proofs.PartTexts.{TextKnown}
 use Rattle.laws_sessions.proofs.Resting.{IsOfFiles}
+use Rattle.laws_sessions.proofs.SameNumbers.{leaves_number, skips_number, step_number}
 use Rattle.laws_sessions.proofs.StepsKnown.{item_left, leaves_all, step_law, works_name}
 use Rattle.laws_sessions.proofs.TextSteps.{text_law, text_left}
 use Rattle.laws_sessions.proofs.TreeKnown.{TreeStands}
@@ -54,18 +54,18 @@ use Rattle.laws_sessions.proofs.TreePlaces.{laid_closed, laid_left, laid_works, 
 use Rattle.laws_sessions.proofs.TreeSkips.{LaidIn, skip_law, skips_laid}
 
 -- What is known of the log, and of the machine: of the open folders, of the file or link at work, and of what lies at and below the target.
-pub record LogHas (top : Pair) (log : CallLog) (c : Seen) : Type 0 where
+pub record LogHas (top : Pair) (job : ℕ) (log : CallLog) (c : Seen) : Type 0 where
   pub copy : CopyKnown log c
   pub ends : EndsLast c
   pub marked : IsMarked c
   pub text : TextKnown log c.item
   pub whole : PartCalm log c.item
   pub calm : (rest : Route) → IsCalmFrom log c top.target rest
-  pub names : (name : List ℕ) (up : Route) → is_of (folder_of top.target) top.target up ≡ true → WaitsMarked log c name up
+  pub names : (name : List ℕ) (up : Route) → IsOwnName job top (name ∷ up) → WaitsMarked log c name up
 
 -- Folders that owe nothing are left.
-pub leaves_has : (top : Pair) (log : CallLog) (n : ℕ) (old mid : Seen) → LeavesAll n old mid → LogHas top log old → LogHas top log mid
-leaves_has top log n old mid l h = record {
+pub leaves_has : (top : Pair) (job : ℕ) (log : CallLog) (n : ℕ) (old mid : Seen) → LeavesAll n old mid → LogHas top job log old → LogHas top job log mid
+leaves_has top job log n old mid l h = record {
   copy = (let copy = h.copy in (leaves_all n log old mid l copy.0, item_left n log old mid l copy.1));
   ends = leaves_end n old mid l h.ends;
   marked = left_marked n old mid l h.marked;
@@ -79,9 +79,9 @@ leaves_has top log n old mid l h = record {
 }
 
 -- The machine makes a step.
-step_has : (top : Pair) (log now : CallLog) → IsTree (current log) → IsOfFiles log → (free : Route → Bool) (replies : Replies) (old new : Seen) (did : Did) (count f0 f1 : ℕ) → CopySteps free replies old new did count (Some log) (Some now) f0 f1 → LogHas top log old
-    → LogHas top now new
-step_has top log now tree files free replies old new did count f0 f1 s h =
+step_has : (top : Pair) (job : ℕ) (log now : CallLog) → IsTree (current log) → IsOfFiles log → (free : Route → Bool) (replies : Replies) (old new : Seen) (did : Did) (count f0 f1 : ℕ) → CopySteps free replies old new did count (Some log) (Some now) f0 f1 → LogHas top job log old
+    → LogHas top job now new
+step_has top job log now tree files free replies old new did count f0 f1 s h =
     let calm = (let law = calm_law in law.step free replies old new did count log now f0 f1 s tree files h.copy h.whole) in
     let names = (let law = names_law in law.step free replies old new did count log now f0 f1 s tree files h.copy h.ends h.marked) in
     record {
@@ -98,8 +98,8 @@ step_has top log now tree files free replies old new did count f0 f1 s h =
     }
 
 -- What is in trouble is passed over.
-skip_has : (top : Pair) (log : CallLog) (cause : Cause) (old new : Seen) (did : Did) → machine.Skips cause old did new → LogHas top log old → LogHas top log new
-skip_has top log cause old new did s h =
+skip_has : (top : Pair) (job : ℕ) (log : CallLog) (cause : Cause) (old new : Seen) (did : Did) → machine.Skips cause old did new → LogHas top job log old → LogHas top job log new
+skip_has top job log cause old new did s h =
     let calm = (let law = calm_law in law.skip log cause old new did s h.whole) in
     let names = (let law = names_law in law.skip log cause old new did s h.marked) in
     record {
@@ -155,9 +155,14 @@ module _ (free : Route → Bool) (replies : Replies) (c new : SubtreeCopying) (d
       passed (inr p) = skips p.0 s.moved new.at did p.3 (worked s.works)
 
   -- so what is known of the log
-  pub log_goes : IsTree (current log) → IsOfFiles log → LogHas c.top log c.at → LogHas c.top now new.at
+  pub log_goes : IsTree (current log) → IsOfFiles log → LogHas c.top c.at.job log c.at → LogHas c.top c.at.job now new.at
   log_goes tree files h =
-      through (λ l x. LogHas c.top l x) (leaves_has c.top log) (λ old moved d k steps has. step_has c.top log now tree files free replies old moved d k f0 f1 steps has) (λ cause old next d skips has. skip_has c.top now cause old next d skips has) h
+      through (λ l x. LogHas c.top c.at.job l x) (leaves_has c.top c.at.job log) (λ old moved d k steps has. step_has c.top c.at.job log now tree files free replies old moved d k f0 f1 steps has) (λ cause old next d skips has. skip_has c.top c.at.job now cause old next d skips has) h
+
+  -- the copy is that of the same job
+  pub number_goes : new.at.job ≡ c.at.job
+  number_goes = through (λ l x. x.job ≡ c.at.job) (λ n old mid l h. leaves_number n old mid l ∙ h) (λ old moved d k steps h. step_number free replies old moved d k (Some log) (Some now) f0 f1 steps ∙ h)
+      (λ cause old next d skips h. skips_number old.item cause old next d skips ∙ h) refl
 
   -- and how the copy stands, with its marks
   pub steps_stand : new.at.stage ≡ after_report did c.at.stage → IsMarked new.at → TreeStands dirty c → TreeStands dirty_after new

@@ -19,7 +19,7 @@ use Rattle.copy_tree.specs.InPlace.{IsInPlace}
 use Rattle.copy_tree.specs.Standing.{Seen, is_fresh}
 use Rattle.copy_tree.specs.declared.item.ItemAtWork.{ItemAtWork}
 use Rattle.copy_tree.specs.declared.item.ItemAtWork.TheVariants.{Next, File, Link, Stays}
-use Rattle.copy_job.specs.Standing.{SubtreeCopying, is_own, part_of}
+use Rattle.copy_job.specs.Standing.{SubtreeCopying, part_of}
 use Rattle.copy_job.specs.Unbegun.{IsUnbegun}
 use Rattle.copy_move.specs.declared.run.Course.{Course}
 use Rattle.copy_move.specs.declared.run.Course.TheVariants.{GoesOn, Asking, InTrouble, OwedSyncFailed, Skips, Ends}
@@ -39,6 +39,7 @@ use Rattle.laws_sessions.proofs.NameChanges.{waits_quiet}
 use Rattle.laws_sessions.proofs.Names.{IsMarked, IsMarkedIn, WaitsMarked}
 use Rattle.laws_sessions.proofs.OpenFolders.{LevelsKnow}
 use Rattle.laws_sessions.proofs.OwedModes.{OwedModes}
+use Rattle.laws_sessions.proofs.OwnNames.{IsOwnName}
 use Rattle.laws_sessions.proofs.PartTexts.{IsLinkAs, TextKnown}
 use Rattle.laws_sessions.proofs.TreeKnows.{levels_quiet}
 use Rattle.laws_sessions.proofs.TreeRuns.{has_quiet}
@@ -94,7 +95,7 @@ pub record TreeHas (told : HistoryFacts) (marks : Marks) (log : CallLog) (c : Su
   pub text : TextKnown log c.at.item
   pub whole : PartCalm log c.at.item
   pub calm : (rest : Route) → IsCalmFrom log c.at c.top.target rest
-  pub names : (name : List ℕ) (up : Route) → is_own c up ≡ true → WaitsMarked log c.at name up
+  pub names : (name : List ℕ) (up : Route) → IsOwnName c.at.job c.top (name ∷ up) → WaitsMarked log c.at name up
   pub modes : OwedModes told.tree c.at
   pub folder : told.folders (folder_of c.top.target) ≡ true
   pub around : TargetKnows told marks (current log) c

@@ -38,14 +38,15 @@ use Rattle.laws_sessions.proofs.Knowing.{IsKept, HistoryFacts}
 use Rattle.laws_sessions.proofs.Names.{WorkedMarked}
 use Rattle.laws_sessions.proofs.OpenFolders.{AroundKnow, InnerKnows, LevelsKnow}
 use Rattle.laws_sessions.proofs.OwedModes.{OwedModes}
+use Rattle.laws_sessions.proofs.OwnNames.{IsOwnName, own_in}
 use Rattle.laws_sessions.proofs.PartTexts.{TextKnown}
-use Rattle.laws_sessions.proofs.TreeGoing.{LogHas, log_goes, steps_stand}
+use Rattle.laws_sessions.proofs.TreeGoing.{LogHas, log_goes, number_goes, steps_stand}
 use Rattle.laws_sessions.proofs.TreeKnown.{ItemHas, TargetKnows, TreeHas, TreeKnown, TreeStands, copy_known, LiesOutside}
 use Rattle.laws_sessions.proofs.Untouched.{NoneOn, none_on, none_over, none_waits}
 use Rattle.laws_sessions.proofs.WaitsAlone.{alone_calm}
 
 -- what is known of the log once something was changed
-pub log_has : (told : HistoryFacts) (dirty : List Route) (marks : Marks) (log : CallLog) (c : SubtreeCopying) → TreeStands dirty c → TreeHas told marks log c → LogHas c.top log c.at
+pub log_has : (told : HistoryFacts) (dirty : List Route) (marks : Marks) (log : CallLog) (c : SubtreeCopying) → TreeStands dirty c → TreeHas told marks log c → LogHas c.top c.at.job log c.at
 log_has told dirty marks log c stands h = record {
   copy = copy_known told dirty marks log c stands h;
   ends = stands.ends;
@@ -101,7 +102,7 @@ module _ (told : HistoryFacts) (dirty : List Route) (marks : Marks) (log : CallL
     | inr b ↦ inr (refl, b, (let outside = stands.unbegun fresh in subst (λ i. IsApart i c.top.target) (sym outside.none) tt))
   ]
 
-  pub first_has : LogHas c.top log c.at
+  pub first_has : LogHas c.top c.at.job log c.at
   first_has =
       let outside = stands.unbegun fresh in
       let place = stands.in_place in
@@ -115,7 +116,9 @@ module _ (told : HistoryFacts) (dirty : List Route) (marks : Marks) (log : CallL
         text = subst (λ i. TextKnown log i) (sym outside.none) tt;
         whole = subst (λ i. PartCalm log i) (sym outside.none) tt;
         calm = calm_first;
-        names = λ name q own. (λ waits. absurd (both_ways _ (none_own name q own) waits), alone_calm log (name ∷ q) (none_own name q own));
+        names = λ name q own.
+            let none = none_own name q (own_in c.at.job c.top (name ∷ q) own) in
+            (λ waits. absurd (both_ways _ none waits), alone_calm log (name ∷ q) none);
       }
 
 module _ (told : HistoryFacts) (dirty dirty_after : List Route) (marks : Marks) (log now : CallLog) (kept : IsKept told dirty marks log) (c new : SubtreeCopying) (did : Did) (free : Route → Bool) (replies : Replies) (count f0 f1 : ℕ)
@@ -124,11 +127,12 @@ module _ (told : HistoryFacts) (dirty dirty_after : List Route) (marks : Marks) 
   name_then = subst (λ (top : Pair). HasName top.target) (sym told_so.top) name
 
   -- once something was changed
-  pub tree_then : LiesOutside c.top → LogHas c.top log c.at → (after : HistoryFacts) (course : Course) (m : Marks) → OwedModes after.tree new.at → after.folders (folder_of c.top.target) ≡ true → ItemHas after dirty_after m (current now) course new.at.item
+  pub tree_then : LiesOutside c.top → LogHas c.top c.at.job log c.at → (after : HistoryFacts) (course : Course) (m : Marks) → OwedModes after.tree new.at → after.folders (folder_of c.top.target) ≡ true → ItemHas after dirty_after m (current now) course new.at.item
       → TargetKnows after m (current now) new → TreeKnown after dirty_after m now course new
   tree_then outside has after course m modes folder part around =
       let has_now = log_goes free replies c new did count dirty dirty_after log now f0 f1 s kept.known.guarded.tree kept.known.files has in
       let copy = has_now.copy in
+      let number = number_goes free replies c new did count dirty dirty_after log now f0 f1 s in
       record {
         name = name_then;
         part = part;
@@ -141,7 +145,7 @@ module _ (told : HistoryFacts) (dirty dirty_after : List Route) (marks : Marks) 
             text = has_now.text;
             whole = has_now.whole;
             calm = λ rest. subst (λ (top : Pair). IsCalmFrom now new.at top.target rest) (sym told_so.top) (has_now.calm rest);
-            names = λ n q own. has_now.names n q (subst (λ (top : Pair). is_of (folder_of top.target) top.target q ≡ true) told_so.top own);
+            names = λ n q own. has_now.names n q (subst (λ j. IsOwnName j c.top (n ∷ q)) number (subst (λ (top : Pair). IsOwnName new.at.job top (n ∷ q)) told_so.top own));
             modes = modes;
             folder = subst (λ (top : Pair). after.folders (folder_of top.target) ≡ true) (sym told_so.top) folder;
             around = around;

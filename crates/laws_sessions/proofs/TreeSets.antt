@@ -102,8 +102,8 @@ module _ (told : HistoryFacts) (dirty dirty_after : List Route) (marks : Marks) 
   has_known : TreeHas told marks log c
   has_known = b.begun some
 
-  has : LogHas top log mid
-  has = leaves_has top log b.n c.at mid b.leaves (log_has told dirty marks log c b.stands has_known)
+  has : LogHas top c.at.job log mid
+  has = leaves_has top c.at.job log b.n c.at mid b.leaves (log_has told dirty marks log c b.stands has_known)
 
   in_place : IsInPlace top mid
   in_place = let s = b.stands in leaves_all top b.n c.at mid b.leaves s.in_place

@@ -45,6 +45,8 @@ use Rattle.laws_sessions.proofs.KnownParts.{may_fill, FileKnows, HasName, LinkKn
 use Rattle.laws_sessions.proofs.Knowing.{HistoryFacts}
 use Rattle.laws_sessions.proofs.ListSteps.{list_law}
 use Rattle.laws_sessions.proofs.NameLaws.{names_law}
+use Rattle.laws_sessions.proofs.OwnNames.{IsOwnName}
+use Rattle.laws_sessions.proofs.SameNumbers.{retried_number, skips_number}
 use Rattle.laws_sessions.proofs.SetFolders.{owed_mode_law}
 use Rattle.laws_sessions.proofs.TextSteps.{text_law}
 use Rattle.laws_sessions.proofs.TreeKnown.{ItemHas, TargetKnows, TreeGoes, TreeHas, TreeKnown, TreeStands, copy_known, is_over}
@@ -182,7 +184,7 @@ module _ (told : HistoryFacts) (dirty : List Route) (marks : Marks) (log : CallL
           text = (let law = text_law in law.skip log cause old.at at did skips h.text);
           whole = calm.0;
           calm = λ rest. elim (h.calm rest) [ inl still ↦ inl (calm.1 (rest ++ old.top.target) still) | inr b ↦ inr (b.0, b.1, skip_bare old.top.target cause old.at at did skips b.2) ];
-          names = λ name up own. names.1 name up (h.names name up own);
+          names = λ name up own. names.1 name up (h.names name up (subst (λ n. IsOwnName n old.top (name ∷ up)) (skips_number old.at.item cause old.at at did skips) own));
           modes = (let law = owed_mode_law in law.skip cause old.at at did told.tree skips h.modes);
           folder = h.folder;
           around = skips_around h.around;
@@ -242,7 +244,7 @@ module _ (told : HistoryFacts) (dirty : List Route) (marks : Marks) (log : CallL
           text = (let law = text_law in law.retry log c.at h.text);
           whole = calm.0;
           calm = λ rest. elim (h.calm rest) [ inl still ↦ inl (calm.1 (rest ++ c.top.target) still) | inr b ↦ inr (b.0, b.1, retry_bare c.top.target c.at b.2) ];
-          names = λ name up own. names.1 name up (h.names name up own);
+          names = λ name up own. names.1 name up (h.names name up (subst (λ n. IsOwnName n c.top (name ∷ up)) (retried_number c.at.item c.at) own));
           modes = (let law = owed_mode_law in law.retry c.at told.tree h.modes);
           folder = h.folder;
           around = retries_around h.around;

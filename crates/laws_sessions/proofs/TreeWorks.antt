@@ -128,8 +128,8 @@ module _ (told : HistoryFacts) (dirty dirty_after : List Route) (marks : Marks) 
       owe_none v new.levels.inner new.levels.around (ap (λ (x : Seen). x.levels.around) is ∙ (settled_around p item did changed mid ∙ outermost))
       (ap (λ (x : Seen). owed_of x.levels.inner.copy.stage) is ∙ (ap owed_of (settled_copy p item did changed mid) ∙ holds.keeps))
 
-  has : LogHas c.top log mid
-  has = leaves_has c.top log b.n c.at mid b.leaves (log_has told dirty marks log c b.stands (b.begun some))
+  has : LogHas c.top c.at.job log mid
+  has = leaves_has c.top c.at.job log b.n c.at mid b.leaves (log_has told dirty marks log c b.stands (b.begun some))
 
   -- a file
   module _ (f : Copying) (item : mid.item ≡ File f) (unclaimed : Route → Type 0) where
