@@ -62,15 +62,15 @@ def check_drop_box(program, base, check):
 
 
 def check_long_path(program, base, check):
-    """A path is cut in its box."""
+    """A path is cut in front in its box."""
     folder = os.path.join(base, "l" * 60, "m" * 60)
     os.makedirs(folder)
     make_file(os.path.join(folder, "x"), 1, 0o644)
     make_file(os.path.join(base, "l" * 60, "x"), 1, 0o644)
     _, told, _ = run(program, [os.path.join(base, "l" * 60), folder], [END, F5, ENTER, ENTER, ENTER, F10, F10])
     rows = [row for screen in told.screens for row in screen.rows()]
-    cut = os.path.join(folder, "x")[:59] + "~"
-    check("a long path is cut in its box", any(f"| {cut} |" in row for row in rows))
+    cut = "~" + os.path.join(folder, "x")[-59:]
+    check("a long path is cut in front in its box", any(f"| {cut} |" in row for row in rows))
 
 
 def check_path_too_long(program, base, check):
